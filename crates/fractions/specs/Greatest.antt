@@ -1,0 +1,116 @@
+-- The first of the greatest among the first n fractions of a sequence: "the first that has none" and "the first with the greatest factor" are
+-- one rule, since a fraction over 0 is above every other. Assumes nothing.
+use mathlib.Core.Path.{_≡_, refl, ap}
+use mathlib.Core.Logic.{_⊎_, inl, inr}
+use mathlib.Core.Bool.{Bool, true, false, cond}
+use Prim.Native.Nat.{ℕ, zero, suc, _+_, _<_, _≤_}
+use native.Mathlib.Decide.{ℕ-discrete}
+use native.Mathlib.Numerals.{add-one}
+use native.Mathlib.Omega.{arith}
+use Rattle.fractions.specs.declared.Order.{Order}
+use Rattle.fractions.specs.declared.Order.the-variants.{Less, Equal, Greater}
+use Rattle.fractions.specs.Fraction.{Fraction, _≼_, _≺_, order}
+use Rattle.fractions.specs.Laws.{order-equal, order-less, order-greater, greater, ≼-refl, ≼-total, ≼-trans, ≺-≼-trans, ≼-≺-trans}
+
+abbrev pub is-greater : Order → Bool
+is-greater Less = false
+is-greater Equal = false
+is-greater Greater = true
+
+-- its place, from 0: a later fraction takes it over only where it is greater
+unfoldable pub first-greatest : (ℕ → Fraction) → ℕ → ℕ
+first-greatest g zero = 0
+first-greatest g (suc k) = cond (is-greater (order (g k) (g (first-greatest g k)))) k (first-greatest g k)
+
+-- ---- a loop's turn
+
+module _ (g : ℕ → Fraction) where
+  pub first-greatest-none : first-greatest g 0 ≡ 0
+  unfolding first-greatest
+  first-greatest-none = refl
+
+  pub first-greatest-one : first-greatest g 1 ≡ 0
+  unfolding first-greatest
+  first-greatest-one = rw (order-equal (g 0) (g 0) refl)
+
+  pub first-greatest-next : (k : ℕ) → first-greatest g (k + 1) ≡ cond (is-greater (order (g k) (g (first-greatest g k)))) k (first-greatest g k)
+  unfolding first-greatest
+  first-greatest-next k = rw (add-one k)
+
+-- ---- what it is
+
+-- b is a place below k, no fraction below k is greater, and those before b are less
+pub record First (g : ℕ → Fraction) (k b : ℕ) : Type 0 where
+  pub place : b < k
+  pub greatest : (i : ℕ) → i < k → g i ≼ g b
+  pub first : (i : ℕ) → i < b → g i ≺ g b
+
+not-greater : (f h : Fraction) (o : Order) → is-greater o ≡ false → order f h ≡ o → f ≼ h
+not-greater f h o n e = go (≼-total f h)
+  where
+    clash : (o o′ : Order) → is-greater o ≡ false → o′ ≡ o → o′ ≡ Greater → ⊥
+    clash Less o′ n e p = let z : _≡_ {A = ℕ} 0 1 = cc in omega arith
+    clash Equal o′ n e p = let z : _≡_ {A = ℕ} 0 1 = cc in omega arith
+    clash Greater o′ n e p = let z : _≡_ {A = ℕ} 0 1 = cc in omega arith
+
+    go : (f ≼ h) ⊎ (h ≺ f) → f ≼ h
+    go (inl l) = l
+    go (inr l) = absurd (clash o (order f h) n e (order-greater f h l))
+
+-- one fraction more: it takes the place over, or it does not
+module _ (g : ℕ → Fraction) (k b : ℕ) (h : First g k b) where
+  taken : g b ≺ g k → First g (suc k) k
+  taken l =
+      record {
+        place = omega arith;
+        greatest = λ i m. at-most i m (ℕ-discrete i k);
+        first = λ i m. ≼-≺-trans (g i) (g b) (g k) (h .greatest i m) l;
+      }
+    where
+      at-most : (i : ℕ) → i < suc k → Dec (i ≡ k) → g i ≼ g k
+      at-most i m (yes p) = rw p (≼-refl (g k))
+      at-most i m (no p) = ≼-trans (g i) (g b) (g k) (h .greatest i (omega arith)) (omega arith)
+
+  kept : g k ≼ g b → First g (suc k) b
+  kept l =
+      record {
+        place = omega (arith, h .place);
+        greatest = λ i m. at-most i m (ℕ-discrete i k);
+        first = h .first;
+      }
+    where
+      at-most : (i : ℕ) → i < suc k → Dec (i ≡ k) → g i ≼ g b
+      at-most i m (yes p) = rw p l
+      at-most i m (no p) = h .greatest i (omega arith)
+
+  more : (o : Order) → order (g k) (g b) ≡ o → First g (suc k) (cond (is-greater o) k b)
+  more Less e = kept (not-greater (g k) (g b) Less refl e)
+  more Equal e = kept (not-greater (g k) (g b) Equal refl e)
+  more Greater e = taken (greater (g k) (g b) e)
+
+pub first-greatest-is : (g : ℕ → Fraction) (k : ℕ) → 0 < k → First g k (first-greatest g k)
+unfolding first-greatest
+first-greatest-is g zero h = absurd (omega arith)
+first-greatest-is g (suc zero) h =
+    rw (order-equal (g 0) (g 0) refl)
+    (record { place = omega arith; greatest = λ i l. alone i (omega arith); first = λ i l. absurd (omega arith) })
+  where
+    alone : (i : ℕ) → i ≡ 0 → g i ≼ g 0
+    alone i e = rw e (≼-refl (g 0))
+first-greatest-is g (suc (suc k)) h =
+    more g (suc k) (first-greatest g (suc k)) (first-greatest-is g (suc k) (omega arith)) (order (g (suc k)) (g (first-greatest g (suc k)))) refl
+
+-- a place of the list, or 0 where there is none
+pub first-greatest-below : (g : ℕ → Fraction) (k m : ℕ) → k ≤ m → 0 < m → first-greatest g k < m
+unfolding first-greatest
+first-greatest-below g zero m h l = l
+first-greatest-below g (suc k) m h l = omega (arith, first-greatest-is g (suc k) (omega arith) .place)
+
+-- it looks at the first k fractions only
+pub first-greatest-cong : (g h : ℕ → Fraction) (k : ℕ) → ((i : ℕ) → i < k → g i ≡ h i) → first-greatest g k ≡ first-greatest h k
+unfolding first-greatest
+first-greatest-cong g h zero e = refl
+first-greatest-cong g h (suc k) e =
+    let r = first-greatest-cong g h k (λ i l. e i (omega arith)) in
+    let b : first-greatest h k < suc k = first-greatest-below h k (suc k) (omega arith) (omega arith) in
+    rw (r, e k (omega arith), e (first-greatest h k) b)

@@ -1,0 +1,3 @@
+pub mod Fraction
+pub mod Laws
+pub mod Greatest

@@ -1,0 +1,129 @@
+-- The size |z| of a whole number, `natAbs z`: its laws, its relation to the order, and what fits a signed width.
+-- The question whether a signed operation wraps, `SFits w64 (x +ℤ y)`, is answered in one of two ways.
+-- By `omega`, from bounds in reach: `omega (arith, fits, natAbs-+ℤ x y)`.
+-- By computing a bound, from a bound of each variable: `let X = at-most x 1000 hx in let Y = at-most y 9 hy in sfits-by (search bounds) tt`.
+-- Assumes nothing.
+use mathlib.Core.Path.{_≡_, refl}
+use Prim.Native.Nat.{ℕ, zero, suc, _+_, _*_, _^_, _≤_, _<_}
+use native.Mathlib.Nat.{mul-le-mul, le-trans, lt-of-le-of-lt}
+use native.Mathlib.Omega.{arith}
+use lib.Dec.{T, leb, ltb, ltb→lt, leb→le}
+use lib.IntN.{ℤ, pos, negsuc, negℤ, natAbs, _+ℤ_, _-ℤ_, _*ℤ_}
+use lib.Pow.{pow-pos}
+use lib.Signed.{mag, _≤ℤ_}
+use mir.Syntax.{Width}
+use mir.Val.{hbits, SFits}
+use Rattle.integers.specs.Diff.{one-side, abs-parts, add-parts, neg-parts}
+use Rattle.integers.specs.Order.{ints}
+
+-- ---- the laws
+
+pub natAbs-negℤ : (x : ℤ) → natAbs (negℤ x) ≡ natAbs x
+natAbs-negℤ (pos zero) = refl
+natAbs-negℤ (pos (suc n)) = refl
+natAbs-negℤ (negsuc n) = refl
+
+pub natAbs-*ℤ : (x y : ℤ) → natAbs (x *ℤ y) ≡ natAbs x * natAbs y
+natAbs-*ℤ (pos a) (pos b) = refl
+natAbs-*ℤ (pos a) (negsuc b) = natAbs-negℤ (pos (a * suc b))
+natAbs-*ℤ (negsuc a) (pos b) = natAbs-negℤ (pos (suc a * b))
+natAbs-*ℤ (negsuc a) (negsuc b) = refl
+
+pub natAbs-+ℤ : (x y : ℤ) → natAbs (x +ℤ y) ≤ natAbs x + natAbs y
+natAbs-+ℤ x y =
+    omega (arith, add-parts x y, one-side (x +ℤ y), abs-parts (x +ℤ y), abs-parts x, abs-parts y)
+
+pub natAbs-subℤ : (x y : ℤ) → natAbs (x -ℤ y) ≤ natAbs x + natAbs y
+natAbs-subℤ x y = omega (arith, natAbs-+ℤ x (negℤ y), natAbs-negℤ y)
+
+-- the size of a sum is at least the difference of the sizes
+pub natAbs-+ℤ-low : (x y : ℤ) → natAbs x ≤ natAbs (x +ℤ y) + natAbs y
+natAbs-+ℤ-low x y =
+    omega (arith, add-parts x y, one-side x, abs-parts (x +ℤ y), abs-parts x, abs-parts y)
+
+pub natAbs-zero : (x : ℤ) → natAbs x ≡ 0 → x ≡ pos 0
+natAbs-zero x h = omega (arith, ints, abs-parts x)
+
+-- ---- and the order
+
+pub natAbs-between : (x : ℤ) (n : ℕ) → natAbs x ≤ n → (negℤ (pos n) ≤ℤ x) × (x ≤ℤ pos n)
+natAbs-between x n h =
+    (omega (arith, ints, neg-parts (pos n), abs-parts x), omega (arith, ints, abs-parts x))
+
+pub natAbs-of-between : (x : ℤ) (n : ℕ) → negℤ (pos n) ≤ℤ x → x ≤ℤ pos n → natAbs x ≤ n
+natAbs-of-between x n h k = omega (arith, ints, neg-parts (pos n), abs-parts x, one-side x)
+
+pub ≤ℤ-natAbs : (x : ℤ) → x ≤ℤ pos (natAbs x)
+≤ℤ-natAbs x = natAbs-between x (natAbs x) (omega arith) .1
+
+-- what is not negative is its size
+pub natAbs-0≤ : (x : ℤ) → pos 0 ≤ℤ x → pos (natAbs x) ≡ x
+natAbs-0≤ x h = omega (arith, ints, abs-parts x, one-side x)
+
+-- ---- what fits a signed width
+
+mag-le : (z : ℤ) → mag z ≤ natAbs z
+mag-le (pos n) = omega arith
+mag-le (negsuc n) = omega arith
+
+natAbs-mag : (z : ℤ) → natAbs z ≤ suc (mag z)
+natAbs-mag (pos n) = omega arith
+natAbs-mag (negsuc n) = omega arith
+
+-- a size below half the width's power fits
+pub sfits-size : {w : Width} {z : ℤ} → natAbs z < 2 ^ hbits w → SFits w z
+sfits-size {w} {z} h = record { sfits = lt-of-le-of-lt (mag-le z) h }
+
+-- and what fits has at most that size
+pub size-sfits : {w : Width} {z : ℤ} → SFits w z → natAbs z ≤ 2 ^ hbits w
+size-sfits {w} {z} h = le-trans (natAbs-mag z) (h .sfits)
+
+-- a number below zero may have that size itself
+pub sfits-negℤ : {w : Width} (m : ℕ) → m ≤ 2 ^ hbits w → SFits w (negℤ (pos m))
+sfits-negℤ {w} zero h = record { sfits = pow-pos (hbits w) }
+sfits-negℤ (suc m) h = record { sfits = h }
+
+-- the rules for `omega`
+pub ruleset fits = (sfits-size, size-sfits)
+
+-- ---- a bound computed along a term
+
+pub record Bound (z : ℤ) : Type 0 where
+  pub b : ℕ
+  pub ok : natAbs z ≤ b
+
+abbrev pub at-most : (z : ℤ) (b : ℕ) → natAbs z ≤ b → Bound z
+at-most z b h = record { b = b; ok = h }
+
+pub sum-ok : (x y : ℤ) (a b : ℕ) → natAbs x ≤ a → natAbs y ≤ b → natAbs (x +ℤ y) ≤ a + b
+sum-ok x y a b h k = omega (arith, natAbs-+ℤ x y)
+
+pub neg-ok : (x : ℤ) (a : ℕ) → natAbs x ≤ a → natAbs (negℤ x) ≤ a
+neg-ok x a h = omega (arith, natAbs-negℤ x)
+
+pub product-ok : (x y : ℤ) (a b : ℕ) → natAbs x ≤ a → natAbs y ≤ b → natAbs (x *ℤ y) ≤ a * b
+product-ok x y a b h k = omega (arith, natAbs-*ℤ x y, mul-le-mul h k)
+
+abbrev pub b-add : {x y : ℤ} → Bound x → Bound y → Bound (x +ℤ y)
+b-add {x} {y} s t = record { b = s .b + t .b; ok = sum-ok x y (s .b) (t .b) (s .ok) (t .ok) }
+
+abbrev pub b-mul : {x y : ℤ} → Bound x → Bound y → Bound (x *ℤ y)
+b-mul {x} {y} s t = record { b = s .b * t .b; ok = product-ok x y (s .b) (t .b) (s .ok) (t .ok) }
+
+abbrev pub b-neg : {x : ℤ} → Bound x → Bound (negℤ x)
+b-neg {x} s = record { b = s .b; ok = neg-ok x (s .b) (s .ok) }
+
+abbrev pub b-pos : (n : ℕ) → Bound (pos n)
+b-pos n = record { b = n; ok = omega arith }
+
+abbrev pub b-negsuc : (n : ℕ) → Bound (negsuc n)
+b-negsuc n = record { b = suc n; ok = omega arith }
+
+pub ruleset bounds = (b-add, b-mul, b-neg, b-pos, b-negsuc)
+
+-- the computed bound is small enough, by computation: `tt`
+pub sfits-by : {w : Width} {z : ℤ} (s : Bound z) → T (ltb (s .b) (2 ^ hbits w)) → SFits w z
+sfits-by {w} {z} s t = sfits-size (lt-of-le-of-lt (s .ok) (ltb→lt (s .b) (2 ^ hbits w) t))
+
+pub size-by : (z : ℤ) {n : ℕ} (s : Bound z) → T (leb (s .b) n) → natAbs z ≤ n
+size-by z {n} s t = le-trans (s .ok) (leb→le (s .b) n t)

@@ -1,0 +1,132 @@
+-- `judge::greatest_factor` meets its contract. The loop's invariant: the place held is that of the first greatest factor below i. Assumes nothing.
+use mathlib.Core.Path.{_≡_, refl, sym, ap, ap₂, _∙_}
+use mathlib.Core.Logic.{⊎-elim}
+use mathlib.Core.Bool.{Bool, true, false, cond}
+use mathlib.Core.List.{List}
+use Prim.Native.Nat.{ℕ, zero, suc, _+_, _-_, _≤_, _<_, max}
+use native.Mathlib.Omega.{arith}
+use lib.ListN.{getD}
+use lib.IntN.{ℤ, pos}
+use mir.Syntax.{w64}
+use mir.Val.{SFits}
+use mir.Facts.{toZ-ofZ}
+use borrow.Author.Needs.{needs}
+use Rattle.fractions.specs.Fraction.{Fraction, order}
+use Rattle.fractions.specs.Greatest.{is-greater, first-greatest, first-greatest-none, first-greatest-one, first-greatest-next}
+use Rattle.judge.specs.Judgement.{factor}
+use Rattle.judge.proofs.greatest_factor.Statement.{statement}
+use Rattle.judge.proofs.greatest_factor.Tie as tie
+
+abbrev factors : List ℤ → List ℕ → ℕ → Fraction
+factors residuals reaches i = factor (getD residuals i (pos 0)) (getD reaches i 0)
+
+abbrev Inv-loop : tie.InvT-loop
+Inv-loop n residuals reaches best₀ i₀ best i =
+    (1 ≤ i) × (i ≤ max 1 n) × (best < 8) × (best ≡ first-greatest (factors residuals reaches) i)
+
+abbrev μ-loop : tie.MeasureT-loop
+μ-loop n residuals reaches best₀ i₀ best i = n - i
+
+loop-holds : tie.Need-loop-holds Inv-loop μ-loop
+loop-holds c = (omega arith, omega arith, omega arith, sym (first-greatest-one (factors (c .args .residuals .now) (c .args .reaches .now))))
+
+mul-exceeds : tie.Need-mul-exceeds Inv-loop μ-loop
+mul-exceeds c = search needs
+
+element-copy-out-exceeds : tie.Need-element-copy-out-exceeds Inv-loop μ-loop
+element-copy-out-exceeds c = search needs
+
+mul-exceeds-2 : tie.Need-mul-exceeds-2 Inv-loop μ-loop
+mul-exceeds-2 c = search needs
+
+element-copy-out-exceeds-2 : tie.Need-element-copy-out-exceeds-2 Inv-loop μ-loop
+element-copy-out-exceeds-2 c = search needs
+
+mul-exceeds-3 : tie.Need-mul-exceeds-3 Inv-loop μ-loop
+mul-exceeds-3 c = search needs
+
+element-copy-out-exceeds-3 : tie.Need-element-copy-out-exceeds-3 Inv-loop μ-loop
+element-copy-out-exceeds-3 c = search needs
+
+mul-exceeds-4 : tie.Need-mul-exceeds-4 Inv-loop μ-loop
+mul-exceeds-4 c = search needs
+
+element-copy-out-exceeds-4 : tie.Need-element-copy-out-exceeds-4 Inv-loop μ-loop
+element-copy-out-exceeds-4 c = search needs
+
+-- one factor more
+next : (g : ℕ → Fraction) (i best : ℕ) (b : Bool) → best ≡ first-greatest g i → b ≡ is-greater (order (g i) (g best))
+    → cond b i best ≡ first-greatest g (i + 1)
+next g i best b e h = rw (first-greatest-next g i, ← e, ← h)
+
+module _ (c : tie.After-exceeds Inv-loop μ-loop) where
+  abbrev start : tie.Start Inv-loop μ-loop
+  start = c .before .before .before .before .before .before .before
+
+  abbrev at-loop : tie.At-loop Inv-loop μ-loop
+  at-loop = c .before .before .before .before .before .before
+
+  abbrev g′ : ℕ → Fraction
+  g′ = factors (start .args .residuals .now) (start .args .reaches .now)
+
+  fits-at : SFits w64 (getD (start .args .residuals .now) (at-loop .loop .i) (pos 0))
+  fits-at = record { sfits = c .before .before .before .before .exceeds-arg .given }
+
+  fits-best : SFits w64 (getD (start .args .residuals .now) (at-loop .loop .best) (pos 0))
+  fits-best = record { sfits = c .before .before .exceeds-arg3 .given }
+
+  next′ : cond (c .exceeds .result) (at-loop .loop .i) (at-loop .loop .best) ≡ first-greatest g′ (at-loop .loop .i + 1)
+  next′ =
+      let f = fits-at in
+      let h = fits-best in
+      next g′ (at-loop .loop .i) (at-loop .loop .best) (c .exceeds .result) (at-loop .loop .inv .3) (simp toZ-ofZ at (c .exceeds .ensures))
+
+exceeds-requires : tie.Need-exceeds-requires Inv-loop μ-loop
+exceeds-requires c κs = search needs
+
+add-i : tie.Need-add-i Inv-loop μ-loop
+add-i c = search needs
+
+loop-less : tie.Need-loop-less Inv-loop μ-loop
+loop-less c = search needs
+
+loop-again : tie.Need-loop-again Inv-loop μ-loop
+loop-again c =
+    let l = at-loop (c .before) .loop in
+    let chosen : (b : Bool) → b ≡ c .before .exceeds .result → cond b (l .i) (l .best) ≡ first-greatest (g′ (c .before)) (l .i + 1) =
+    λ b e. ap (λ b. cond b (l .i) (l .best)) e ∙ next′ (c .before) in
+    ⊎-elim
+    (λ w. (omega arith, omega arith, omega arith, w .1 ∙ chosen true (sym (w .0 .taken))))
+    (λ w. (omega arith, omega arith, omega arith, w .1 ∙ chosen false (sym (w .0 .left))))
+    (c .if1 .came)
+
+-- at the loop's end i is n, or 1 where n is 0
+last : (g : ℕ → Fraction) (n i : ℕ) → 1 ≤ i → i ≤ max 1 n → n ≤ i → first-greatest g i ≡ first-greatest g n
+last g zero i h k l = let e : i ≡ 1 = omega arith in rw e (first-greatest-one g ∙ sym (first-greatest-none g))
+last g (suc n) i h k l = let e : i ≡ suc n = omega arith in rw e
+
+returns : tie.Need-returns Inv-loop μ-loop
+returns c =
+    let g = c .before .before .args in
+    c .before .loop .inv .3 ∙ last (factors (g .residuals .now) (g .reaches .now)) (g .n) (c .before .loop .i) (omega arith) (omega arith) (omega arith)
+
+pub greatest-factor-spec : {M : Type 1} → statement M
+greatest-factor-spec =
+    tie.close
+    (tie.spec
+    Inv-loop
+    μ-loop
+    loop-holds
+    mul-exceeds
+    element-copy-out-exceeds
+    mul-exceeds-2
+    element-copy-out-exceeds-2
+    mul-exceeds-3
+    element-copy-out-exceeds-3
+    mul-exceeds-4
+    element-copy-out-exceeds-4
+    exceeds-requires
+    add-i
+    loop-less
+    loop-again
+    returns)

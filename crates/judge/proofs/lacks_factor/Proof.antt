@@ -1,0 +1,25 @@
+-- `judge::lacks_factor` meets its contract, by its two tests. Assumes nothing.
+use mathlib.Core.Path.{_≡_, ap, sym}
+use mathlib.Core.Bool.{not}
+use lib.Dec.{eqb}
+use lib.IntN.{natAbs}
+use mir.Facts.{toZ-ofZ}
+use borrow.Author.Needs.{needs}
+use borrow.Author.Tests.{eq-eqb, ne-eqb}
+use Rattle.judge.proofs.lacks_factor.Statement.{statement}
+use Rattle.judge.proofs.lacks_factor.Tie as tie
+
+magnitude-requires : tie.Need-magnitude-requires
+magnitude-requires c κs = search needs
+
+returns : tie.Need-returns
+returns c =
+    let f = c .before .before .fits .residual in
+    let e = simp toZ-ofZ at (c .magnitude .ensures) in
+    rw (eq-eqb _ _ (c .before .if1 .taken), e)
+
+returns-2 : tie.Need-returns-2
+returns-2 c = rw (ne-eqb _ _ (c .if1 .left))
+
+pub lacks-factor-spec : {M : Type 1} → statement M
+lacks-factor-spec = tie.close (tie.spec magnitude-requires returns returns-2)

@@ -1,0 +1,116 @@
+-- `judge::row_reach` meets its contract. The loop's invariant: the accumulator is the sum of exactly the terms so far, each of which is at most
+-- 2 ^ 47. Assumes nothing.
+use mathlib.Core.Path.{_≡_, ap, ap₂, _∙_}
+use Prim.Native.Nat.{ℕ, _+_, _*_, _-_, _^_, _≤_, _<_}
+use native.Mathlib.Nat.{mul-le-mul, le-trans}
+use native.Mathlib.Omega.{arith}
+use lib.Dec.{lit≤}
+use lib.ListN.{getD}
+use lib.IntN.{ℤ, pos, natAbs}
+use mir.Syntax.{w32}
+use mir.Val.{SFits}
+use mir.Facts.{toZ-ofZ}
+use borrow.Author.Needs.{needs}
+use Rattle.integers.specs.Sums.{total, total-more}
+use Rattle.judge.proofs.row_reach.Statement.{statement}
+use Rattle.judge.proofs.row_reach.Tie as tie
+
+abbrev Inv-loop : tie.InvT-loop
+Inv-loop n from scale tolerances right-tolerance trial t₀ j₀ t j =
+    (j ≤ n)
+    × (t ≡ total j (λ k. getD tolerances (from + k) 0 * natAbs (getD trial k (pos 0))))
+    × (t ≤ j * 2 ^ 47)
+
+abbrev μ-loop : tie.MeasureT-loop
+μ-loop n from scale tolerances right-tolerance trial t₀ j₀ t j = n - j
+
+module _ (c : tie.After-weight Inv-loop μ-loop) where
+  abbrev start : tie.Start Inv-loop μ-loop
+  start = c .before .before .before .before .before
+
+  abbrev j′ : ℕ
+  j′ = c .before .before .before .before .loop .j
+
+  abbrev y′ : ℤ
+  y′ = getD (start .args .trial .now) j′ (pos 0)
+
+  term : c .weight .result ≡ getD (start .args .tolerances .now) (start .args .from + j′) 0 * natAbs y′
+  term = let f : SFits w32 y′ = record { sfits = c .before .weight-arg2 .given } in simp toZ-ofZ at (c .weight .ensures .0)
+
+loop-holds : tie.Need-loop-holds Inv-loop μ-loop
+loop-holds c = search needs
+
+add-weight : tie.Need-add-weight Inv-loop μ-loop
+add-weight c = search needs
+
+mul-weight : tie.Need-mul-weight Inv-loop μ-loop
+mul-weight c = search needs
+
+element-copy-out-weight : tie.Need-element-copy-out-weight Inv-loop μ-loop
+element-copy-out-weight c = search needs
+
+mul-weight-2 : tie.Need-mul-weight-2 Inv-loop μ-loop
+mul-weight-2 c = search needs
+
+element-copy-out-weight-2 : tie.Need-element-copy-out-weight-2 Inv-loop μ-loop
+element-copy-out-weight-2 c = search needs
+
+weight-requires : tie.Need-weight-requires Inv-loop μ-loop
+weight-requires c κs = search needs
+
+add-t : tie.Need-add-t Inv-loop μ-loop
+add-t c = omega (arith, c .weight .ensures .1)
+
+add-j : tie.Need-add-j Inv-loop μ-loop
+add-j c = search needs
+
+loop-less : tie.Need-loop-less Inv-loop μ-loop
+loop-less c = search needs
+
+loop-again : tie.Need-loop-again Inv-loop μ-loop
+loop-again c = (
+  omega arith,
+  rw total-more (ap₂ (λ a b. a + b) (c .before .before .before .before .loop .inv .1) (term c)),
+  omega (arith, c .weight .ensures .1),
+)
+
+-- D f fits beside the sum
+scaled : (d f : ℕ) → d < 2 ^ 16 → f < 2 ^ 32 → d * f ≤ 2 ^ 48
+scaled d f h k = le-trans (mul-le-mul {n₂ = 2 ^ 16} {m₂ = 2 ^ 32} (omega arith) (omega arith)) (lit≤ tt)
+
+scaled′ : (c : tie.After-loop Inv-loop μ-loop) → c .before .before .args .scale * c .before .before .args .right-tolerance ≤ 2 ^ 48
+scaled′ c = scaled _ _ (c .before .before .fits .scale .fits) (c .before .before .fits .right-tolerance .fits)
+
+mul-result : tie.Need-mul-result Inv-loop μ-loop
+mul-result c = omega (arith, scaled′ c)
+
+add-result : tie.Need-add-result Inv-loop μ-loop
+add-result c = omega (arith, scaled′ c)
+
+returns : tie.Need-returns Inv-loop μ-loop
+returns c =
+    let g = c .before .before .args in
+    let q : c .before .loop .j ≡ g .n = omega arith in
+    ap (λ t. g .scale * g .right-tolerance + t)
+    (c .before .loop .inv .1 ∙ ap (λ (m : ℕ). total m (λ k. getD (g .tolerances .now) (g .from + k) 0 * natAbs (getD (g .trial .now) k (pos 0)))) q)
+
+pub row-reach-spec : {M : Type 1} → statement M
+row-reach-spec =
+    tie.close
+    (tie.spec
+    Inv-loop
+    μ-loop
+    loop-holds
+    add-weight
+    mul-weight
+    element-copy-out-weight
+    mul-weight-2
+    element-copy-out-weight-2
+    weight-requires
+    add-t
+    add-j
+    loop-less
+    loop-again
+    mul-result
+    add-result
+    returns)

@@ -1,0 +1,60 @@
+-- The judgement of a trial: document 01's "Judgement", row by row in the system's own order. Definitions only. Assumes nothing.
+use mathlib.Core.Bool.{Bool, true, false, cond, not, _&&_}
+use mathlib.Core.List.{List}
+use Prim.Native.Nat.{ℕ, zero, suc}
+use lib.Dec.{leb, eqb}
+use lib.ListN.{getD}
+use lib.IntN.{ℤ, pos, natAbs}
+use Rattle.integers.specs.Tables.{filled}
+use Rattle.fractions.specs.Fraction.{Fraction, _over_}
+use Rattle.fractions.specs.Greatest.{first-greatest}
+use Rattle.judge.specs.declared.Judgement.{Judgement}
+use Rattle.judge.specs.System.{Row, Trial, System, residual, reach, row, trial}
+
+-- "A row is met exactly if |R| is at most T."
+abbrev pub within : ℤ → ℕ → Bool
+within R T = leb (natAbs R) T
+
+-- the row's component |R| / T of the backward error, equation 7.8: the row's factor in document 01. It is 0 where both are 0, and there is
+-- none where only T is 0: such a fraction is above every other
+abbrev pub factor : ℤ → ℕ → Fraction
+factor R T = natAbs R over T
+
+abbrev pub no-factor : ℤ → ℕ → Bool
+no-factor R T = eqb T 0 && not (eqb (natAbs R) 0)
+
+-- the first of the first n places at which p does not hold, counted from 1; 0 where it holds at all
+abbrev pub or-else : ℕ → ℕ → ℕ
+or-else zero m = m
+or-else (suc k) m = suc k
+
+unfoldable pub first-not : (ℕ → Bool) → ℕ → ℕ
+first-not p zero = 0
+first-not p (suc k) = or-else (first-not p k) (cond (p k) 0 (suc k))
+
+-- the first unmet row, counted from 1, or 0
+unfoldable pub first-unmet : System → Trial → ℕ
+first-unmet s t = first-not (λ i. within (residual (row s i) t) (reach (row s i) t)) (s .n)
+
+-- the row that decides, counted from 0: the first that has no factor, or the first with the greatest
+unfoldable pub deciding : System → Trial → ℕ
+deciding s t = first-greatest (λ i. factor (residual (row s i) t) (reach (row s i) t)) (s .n)
+
+-- residual and reach of each row, in eight places
+abbrev pub residuals : System → Trial → List ℤ
+residuals s t = filled 8 (s .n) (pos 0) (λ i. residual (row s i) t)
+
+abbrev pub reaches : System → Trial → List ℕ
+reaches s t = filled 8 (s .n) 0 (λ i. reach (row s i) t)
+
+-- the whole judgement; whether the deciding row has a factor is read off its residual and reach
+unfoldable pub judgement : System → Trial → Judgement
+judgement s t =
+    record {
+      met = eqb (first-unmet s t) 0;
+      unmet = first-unmet s t;
+      none = no-factor (getD (residuals s t) (deciding s t) (pos 0)) (getD (reaches s t) (deciding s t) 0);
+      decides = suc (deciding s t);
+      residuals = residuals s t;
+      reaches = reaches s t;
+    }

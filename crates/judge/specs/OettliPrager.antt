@@ -1,0 +1,187 @@
+-- The theorem of Oettli and Prager in whole numbers, for one row: there are changes under the factor u / v that make the trial exact exactly if
+-- v |R| ≤ u T. In the one direction the changes are those of equation 7.9. Assumes nothing.
+use mathlib.Core.Path.{_≡_, refl, sym, ap, ap₂, _∙_}
+use mathlib.Core.Logic.{_↔_}
+use mathlib.Core.List.{[], _∷_}
+use Prim.Native.Nat.{ℕ, zero, suc, _+_, _*_, _≤_, _<_}
+use native.Mathlib.Nat.{le-of-mul-le-mul-left, mul-le-mul-left, mul-le-mul-right, le-trans}
+use native.Mathlib.Omega.{arith}
+use lib.IntN.{ℤ, pos, negsuc, negℤ, natAbs, _+ℤ_, _-ℤ_, _*ℤ_}
+use Rattle.integers.specs.Poly.{poly, poly-from, terms}
+use Rattle.integers.specs.Ring.{negℤ-*ℤ-negℤ}
+use Rattle.integers.specs.Size.{natAbs-negℤ, natAbs-*ℤ, natAbs-subℤ, natAbs-zero}
+use Rattle.integers.specs.Sums.{sum, total, sum-cong, sum-add, sum-scale, sum-pos, sum-size, total-within}
+use Rattle.judge.specs.System.{Row, Trial, residual, reach}
+use Rattle.judge.specs.Changes.{Changes, Solve, Keep, Under, Possible, PossibleUnder, turned, yielded}
+
+-- ---- the sum of a changed row
+
+spread : (q w a y : ℤ) → (q *ℤ w +ℤ a) *ℤ y ≡ q *ℤ (w *ℤ y) +ℤ a *ℤ y
+spread q w a y = poly (q ∷ w ∷ a ∷ y ∷ []) (λ v. search terms depth 20) refl
+
+changed-sum : (r : Row) (t : Trial) (k : Changes)
+    → sum (t .n) (λ j. (pos (k .q) *ℤ r .A j +ℤ k .a j) *ℤ t .Y j)
+    ≡ pos (k .q) *ℤ sum (t .n) (λ j. r .A j *ℤ t .Y j) +ℤ sum (t .n) (λ j. k .a j *ℤ t .Y j)
+changed-sum r t k =
+    sum-cong (t .n) _ _ (λ j l. spread (pos (k .q)) (r .A j) (k .a j) (t .Y j))
+    ∙ sum-add (t .n) (λ j. pos (k .q) *ℤ (r .A j *ℤ t .Y j)) (λ j. k .a j *ℤ t .Y j)
+    ∙ ap (λ x. x +ℤ sum (t .n) (λ j. k .a j *ℤ t .Y j)) (sum-scale (pos (k .q)) (t .n) (λ j. r .A j *ℤ t .Y j))
+
+-- ---- changes need |R| within reach
+
+-- q R = Σ a(j) Y(j) − D c, from what makes the changed row exact
+scaled : (q d S s b c : ℤ) → q *ℤ S +ℤ s ≡ d *ℤ (q *ℤ b +ℤ c) → q *ℤ (d *ℤ b -ℤ S) ≡ s -ℤ d *ℤ c
+scaled q d S s b c e =
+    poly-from (pos 1) e (poly (q ∷ d ∷ S ∷ s ∷ b ∷ c ∷ []) (λ w. search terms depth 20) refl)
+
+module _ (r : Row) (t : Trial) (k : Changes) where
+  size : Solve r t k → k .q * natAbs (residual r t) ≤ natAbs (sum (t .n) (λ j. k .a j *ℤ t .Y j)) + t .D * natAbs (k .c)
+  unfolding residual
+  size h =
+      let e = scaled (pos (k .q)) (pos (t .D)) (sum (t .n) (λ j. r .A j *ℤ t .Y j)) (sum (t .n) (λ j. k .a j *ℤ t .Y j)) (r .b) (k .c) (sym (changed-sum r t k) ∙ h .exact) in
+      omega (
+        arith,
+        natAbs-*ℤ (pos (k .q)) (residual r t),
+        ap natAbs e,
+        natAbs-subℤ (sum (t .n) (λ j. k .a j *ℤ t .Y j)) (pos (t .D) *ℤ k .c),
+        natAbs-*ℤ (pos (t .D)) (k .c),
+      )
+
+  -- the sum of the changes is bounded like each of them
+  module _ (u v : ℕ) (h : Under u v r t k) where
+    term : (j : ℕ) → j < t .n → v * natAbs (k .a j *ℤ t .Y j) ≤ u * k .q * (r .E j * natAbs (t .Y j))
+    term j l =
+        omega (arith, ap (λ x. v * x) (natAbs-*ℤ (k .a j) (t .Y j)), mul-le-mul-right (natAbs (t .Y j)) (h .coefficients j l))
+
+    within : v * natAbs (sum (t .n) (λ j. k .a j *ℤ t .Y j)) ≤ u * k .q * total (t .n) (λ j. r .E j * natAbs (t .Y j))
+    within =
+        le-trans (mul-le-mul-left v (sum-size (t .n) (λ j. k .a j *ℤ t .Y j)))
+        (total-within v (u * k .q) (t .n) (λ j. natAbs (k .a j *ℤ t .Y j)) (λ j. r .E j * natAbs (t .Y j)) term)
+
+    pub needed : Solve r t k → v * natAbs (residual r t) ≤ u * reach r t
+    unfolding reach
+    needed s =
+        le-of-mul-le-mul-left {k = k .q}
+        (omega (arith, mul-le-mul-left v (size s), within, mul-le-mul-left (t .D) (h .right-side)))
+        (s .positive)
+
+-- ---- the changes that are yielded
+
+turned-size : (y x : ℤ) → natAbs (turned y x) ≤ natAbs x
+turned-size (pos zero) x = omega arith
+turned-size (pos (suc y)) x = omega arith
+turned-size (negsuc y) x = omega (arith, natAbs-negℤ x)
+
+turned-times : (y x : ℤ) → turned y x *ℤ y ≡ x *ℤ pos (natAbs y)
+turned-times (pos zero) x = poly (x ∷ []) (λ w. search terms depth 20) refl
+turned-times (pos (suc y)) x = refl
+turned-times (negsuc y) x = negℤ-*ℤ-negℤ x (pos (suc y))
+
+-- Σ a(j) Y(j) = R Σ E(j) |Y(j)|
+yielded-sum : (r : Row) (t : Trial) (R : ℤ)
+    → sum (t .n) (λ j. turned (t .Y j) (pos (r .E j) *ℤ R) *ℤ t .Y j) ≡ R *ℤ pos (total (t .n) (λ j. r .E j * natAbs (t .Y j)))
+yielded-sum r t R =
+    sum-cong (t .n) _ _ (λ j l. turned-times (t .Y j) (pos (r .E j) *ℤ R) ∙ regroup (r .E j) (natAbs (t .Y j)))
+    ∙ sum-scale R (t .n) (λ j. pos (r .E j * natAbs (t .Y j)))
+    ∙ ap (λ x. R *ℤ x) (sum-pos (t .n) (λ j. r .E j * natAbs (t .Y j)))
+  where
+    regroup : (e n : ℕ) → pos e *ℤ R *ℤ pos n ≡ R *ℤ pos (e * n)
+    regroup e n = poly (R ∷ pos e ∷ pos n ∷ []) (λ w. search terms depth 20) refl
+
+-- q S + R G = D (q b − f R), where q = D f + G and R = D b − S
+balanced : (D f G : ℕ) (b S : ℤ)
+    → pos (D * f + G) *ℤ S +ℤ (pos D *ℤ b -ℤ S) *ℤ pos G ≡ pos D *ℤ (pos (D * f + G) *ℤ b +ℤ negℤ (pos f *ℤ (pos D *ℤ b -ℤ S)))
+balanced D f G b S = poly (pos D ∷ pos f ∷ pos G ∷ b ∷ S ∷ []) (λ w. search terms depth 20) refl
+
+-- no change at all, where R is 0
+unchanged : (d S s b : ℤ) → d *ℤ b -ℤ S ≡ pos 0 → s ≡ pos 0 → pos 1 *ℤ S +ℤ s ≡ d *ℤ (pos 1 *ℤ b +ℤ pos 0)
+unchanged d S s b e z =
+    ap (λ x. pos 1 *ℤ S +ℤ x) z
+    ∙ poly-from (pos 1) e (poly (d ∷ S ∷ b ∷ []) (λ w. search terms depth 20) refl)
+
+module _ (r : Row) (t : Trial) where
+  -- by the value of the reach
+  solve-at : (T : ℕ) → reach r t ≡ T → (T ≡ 0 → residual r t ≡ pos 0) → Solve r t (yielded r t (residual r t) T)
+  unfolding residual reach
+  solve-at zero e z =
+      record {
+        positive = omega arith;
+        exact =
+            changed-sum r t (yielded r t (residual r t) 0)
+            ∙ unchanged (pos (t .D)) (sum (t .n) (λ j. r .A j *ℤ t .Y j)) (sum (t .n) (λ j. pos 0 *ℤ t .Y j)) (r .b) (z refl)
+            (sum-scale (pos 0) (t .n) (t .Y) ∙ poly (sum (t .n) (t .Y) ∷ []) (λ w. search terms depth 20) refl);
+      }
+  solve-at (suc T) e z =
+      record {
+        positive = omega arith;
+        exact =
+            changed-sum r t (yielded r t (residual r t) (suc T))
+            ∙ ap (λ x. pos (suc T) *ℤ sum (t .n) (λ j. r .A j *ℤ t .Y j) +ℤ x) (yielded-sum r t (residual r t))
+            ∙ (rw (← e) (balanced (t .D) (r .f) (total (t .n) (λ j. r .E j * natAbs (t .Y j))) (r .b) (sum (t .n) (λ j. r .A j *ℤ t .Y j))));
+      }
+
+  -- a residual within reach is zero where the reach is
+  within-zero : (u v : ℕ) → 0 < v → v * natAbs (residual r t) ≤ u * reach r t → reach r t ≡ 0 → residual r t ≡ pos 0
+  within-zero u v p h e = natAbs-zero (residual r t) (omega (arith, mul-le-mul-right (natAbs (residual r t)) p, ap (λ x. u * x) e))
+
+  pub yielded-solve : (reach r t ≡ 0 → residual r t ≡ pos 0) → Solve r t (yielded r t (residual r t) (reach r t))
+  yielded-solve z = solve-at (reach r t) refl z
+
+  under-at : (u v T : ℕ) (R : ℤ) → v * natAbs R ≤ u * T → Under u v r t (yielded r t R T)
+  under-at u v zero R h = record { coefficients = λ j l. omega arith; right-side = omega arith }
+  under-at u v (suc T) R h =
+      record {
+        coefficients = λ j l.
+            omega (
+              arith,
+              mul-le-mul-left v (turned-size (t .Y j) (pos (r .E j) *ℤ R)),
+              ap (λ x. v * x) (natAbs-*ℤ (pos (r .E j)) R),
+              mul-le-mul-left (r .E j) h,
+            );
+        right-side =
+            omega (
+              arith,
+              ap (λ x. v * x) (natAbs-negℤ (pos (r .f) *ℤ R) ∙ natAbs-*ℤ (pos (r .f)) R),
+              mul-le-mul-left (r .f) h,
+            );
+      }
+
+  pub yielded-under : (u v : ℕ) → v * natAbs (residual r t) ≤ u * reach r t → Under u v r t (yielded r t (residual r t) (reach r t))
+  yielded-under u v h = under-at u v (reach r t) (residual r t) h
+
+  -- the tolerances themselves are the factor 1 / 1
+  keep-under : (k : Changes) → Keep r t k → Under 1 1 r t k
+  keep-under k h = record { coefficients = λ j l. omega (arith, h .coefficients j l); right-side = omega (arith, h .right-side) }
+
+  under-keep : (k : Changes) → Under 1 1 r t k → Keep r t k
+  under-keep k h = record { coefficients = λ j l. omega (arith, h .coefficients j l); right-side = omega (arith, h .right-side) }
+
+  -- ---- the theorem
+
+  pub oettli-prager : (u v : ℕ) → 0 < v → PossibleUnder u v r t ↔ (v * natAbs (residual r t) ≤ u * reach r t)
+  oettli-prager u v p = (
+    λ k. needed r t (k .changes) u v (k .under) (k .solve),
+    λ h. record {
+      changes = yielded r t (residual r t) (reach r t);
+      solve = yielded-solve (within-zero u v p h);
+      under = yielded-under u v h;
+    },
+  )
+
+  -- where |R| ≤ T, the changes that are yielded keep the tolerances and solve the row
+  pub yielded-keep : natAbs (residual r t) ≤ reach r t
+      → Solve r t (yielded r t (residual r t) (reach r t)) × Keep r t (yielded r t (residual r t) (reach r t))
+  yielded-keep h = (
+    yielded-solve (within-zero 1 1 (omega arith) (omega arith)),
+    under-keep (yielded r t (residual r t) (reach r t)) (yielded-under 1 1 (omega arith)),
+  )
+
+  pub within-tolerances : Possible r t ↔ (natAbs (residual r t) ≤ reach r t)
+  within-tolerances = (
+    λ k. omega (arith, needed r t (k .changes) 1 1 (keep-under (k .changes) (k .keep)) (k .solve)),
+    λ h. record {
+      changes = yielded r t (residual r t) (reach r t);
+      solve = yielded-keep h .0;
+      keep = yielded-keep h .1;
+    },
+  )

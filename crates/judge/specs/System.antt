@@ -1,0 +1,53 @@
+-- A system of linear equations with tolerances, a trial answer, and what the trial leaves of each row: the quantities of Theorem 7.3 of
+-- document 001, in whole numbers. Definitions only. Assumes nothing.
+use mathlib.Core.List.{List}
+use Prim.Native.Nat.{ℕ, _+_, _*_}
+use lib.ListN.{getD}
+use lib.IntN.{ℤ, pos, natAbs, _-ℤ_, _*ℤ_}
+use Rattle.integers.specs.Sums.{sum, total}
+
+-- A row: Σ A(j) x(j) = b, where A(j) is known within ± E(j) and b within ± f.
+pub record Row : Type 0 where
+  pub A : ℕ → ℤ
+  pub E : ℕ → ℕ
+  pub b : ℤ
+  pub f : ℕ
+
+-- A trial answer over n tanks: x(j) = Y(j) / D.
+pub record Trial : Type 0 where
+  pub n : ℕ
+  pub D : ℕ
+  pub Y : ℕ → ℤ
+
+-- the residual r = b − A y of Theorem 7.3, times D: R of document 01
+unfoldable pub residual : Row → Trial → ℤ
+residual r t = pos (t .D) *ℤ r .b -ℤ sum (t .n) (λ j. r .A j *ℤ t .Y j)
+
+-- the denominator E |y| + f of equation 7.8, times D: T of document 01, the row's reach
+unfoldable pub reach : Row → Trial → ℕ
+reach r t = t .D * r .f + total (t .n) (λ j. r .E j * natAbs (t .Y j))
+
+-- n rows over n tanks; the coefficients and their tolerances stand row after row in one list each. Past a list's end a figure reads as 0.
+pub record System : Type 0 where
+  pub n : ℕ
+  pub coefficients : List ℤ
+  pub tolerances : List ℕ
+  pub right-sides : List ℤ
+  pub right-tolerances : List ℕ
+
+abbrev pub system : ℕ → List ℤ → List ℕ → List ℤ → List ℕ → System
+system n A E b f = record { n = n; coefficients = A; tolerances = E; right-sides = b; right-tolerances = f }
+
+-- row i, counted from 0
+abbrev pub row : System → ℕ → Row
+row s i =
+    record {
+      A = λ j. getD (s .coefficients) (i * s .n + j) (pos 0);
+      E = λ j. getD (s .tolerances) (i * s .n + j) 0;
+      b = getD (s .right-sides) i (pos 0);
+      f = getD (s .right-tolerances) i 0;
+    }
+
+-- the figures Y of a list, over n tanks and the scale D
+abbrev pub trial : ℕ → ℕ → List ℤ → Trial
+trial n D Y = record { n = n; D = D; Y = λ j. getD Y j (pos 0) }

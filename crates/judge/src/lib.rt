@@ -1,0 +1,198 @@
+// The judgement of a trial answer, exactly, by the theorem of Oettli and Prager.
+use fractions::Order;
+use integers::magnitude;
+ghost use mathlib.Core.Path.{_≡_};
+ghost use mathlib.Core.List.{[]};
+ghost use Prim.Native.Nat.{_+_, _*_, _^_, _≤_, _<_};
+ghost use lib.ListN.{getD};
+ghost use lib.IntN.{pos, natAbs, _-ℤ_, _*ℤ_};
+ghost use Rattle.integers.specs.Sums.{sum, total};
+ghost use Rattle.fractions.specs.Fraction.{order};
+ghost use Rattle.fractions.specs.Greatest.{is-greater, first-greatest};
+ghost use Rattle.judge.specs.System.{system, trial as trialOf};
+ghost use Rattle.judge.specs.Judgement.{within, factor, no-factor, first-not, residuals as residualsOf, reaches as reachesOf, judgement};
+
+// R = D b − Σ A Y of the row whose coefficients start at `from`, the sum formed tank by tank from the first.
+fn row_residual<'a>(
+    n: usize,
+    from: usize,
+    scale: u16,
+    coefficients: &'a [i16; 64],
+    right_side: i32,
+    trial: &'a [i32; 8],
+) -> i64
+    requires { ⌜ (n ≤ 8) × (from + n ≤ 64) ⌝ }
+    ensures { λ r. ⌜ r ≡ pos scale *ℤ «right_side» -ℤ sum n (λ j. getD (now (coefficients .entry)) (from + j) (pos 0) *ℤ getD (now (trial .entry)) j (pos 0)) ⌝ }
+{
+    let mut s: i64 = 0;
+    let mut j = 0;
+    while j < n {
+        let a = coefficients[from + j] as i64;
+        let y = trial[j] as i64;
+        s += a * y;
+        j += 1;
+    }
+    (scale as i64) * (right_side as i64) - s
+}
+
+// E |Y| of one tank.
+fn weight(tolerance: u16, figure: i32) -> u64
+    ensures { λ r. ⌜ (r ≡ tolerance * natAbs figure) × (r ≤ 2 ^ 47) ⌝ }
+{
+    (tolerance as u64) * magnitude(figure as i64)
+}
+
+// T = D f + Σ E |Y| of the row whose tolerances start at `from`.
+fn row_reach<'a>(
+    n: usize,
+    from: usize,
+    scale: u16,
+    tolerances: &'a [u16; 64],
+    right_tolerance: u32,
+    trial: &'a [i32; 8],
+) -> u64
+    requires { ⌜ (n ≤ 8) × (from + n ≤ 64) ⌝ }
+    ensures { λ r. ⌜ r ≡ scale * «right_tolerance» + total n (λ j. getD (now (tolerances .entry)) (from + j) 0 * natAbs (getD (now (trial .entry)) j (pos 0))) ⌝ }
+{
+    let mut t: u64 = 0;
+    let mut j = 0;
+    while j < n {
+        t += weight(tolerances[from + j], trial[j]);
+        j += 1;
+    }
+    (scale as u64) * (right_tolerance as u64) + t
+}
+
+// The residual of every row; 0 past the last.
+fn all_residuals<'a>(
+    n: usize,
+    scale: u16,
+    coefficients: &'a [i16; 64],
+    right_sides: &'a [i32; 8],
+    trial: &'a [i32; 8],
+) -> [i64; 8]
+    requires { ⌜ n ≤ 8 ⌝ }
+    ensures { λ r. ⌜ r ≡ residualsOf (system n (now (coefficients .entry)) [] (now («right_sides» .entry)) []) (trialOf n scale (now (trial .entry))) ⌝ }
+{
+    let mut r = [0i64; 8];
+    let mut i = 0;
+    while i < n {
+        r[i] = row_residual(n, i * n, scale, coefficients, right_sides[i], trial);
+        i += 1;
+    }
+    r
+}
+
+// The reach of every row; 0 past the last.
+fn all_reaches<'a>(
+    n: usize,
+    scale: u16,
+    tolerances: &'a [u16; 64],
+    right_tolerances: &'a [u32; 8],
+    trial: &'a [i32; 8],
+) -> [u64; 8]
+    requires { ⌜ n ≤ 8 ⌝ }
+    ensures { λ r. ⌜ r ≡ reachesOf (system n [] (now (tolerances .entry)) [] (now («right_tolerances» .entry))) (trialOf n scale (now (trial .entry))) ⌝ }
+{
+    let mut r = [0u64; 8];
+    let mut i = 0;
+    while i < n {
+        r[i] = row_reach(n, i * n, scale, tolerances, right_tolerances[i], trial);
+        i += 1;
+    }
+    r
+}
+
+// The first unmet row, counted from 1, or 0.
+fn first_beyond<'a>(n: usize, residuals: &'a [i64; 8], reaches: &'a [u64; 8]) -> usize
+    requires { ⌜ n ≤ 8 ⌝ }
+    ensures { λ r. ⌜ r ≡ first-not (λ i. within (getD (now (residuals .entry)) i (pos 0)) (getD (now (reaches .entry)) i 0)) n ⌝ }
+{
+    let mut i = 0;
+    while i < n {
+        if reaches[i] < magnitude(residuals[i]) {
+            return i + 1;
+        }
+        i += 1;
+    }
+    0
+}
+
+// Whether a row has no factor: a residual, and no reach.
+fn lacks_factor(residual: i64, reach: u64) -> bool
+    ensures { λ r. ⌜ r ≡ no-factor residual reach ⌝ }
+{
+    if reach == 0 {
+        magnitude(residual) != 0
+    } else {
+        false
+    }
+}
+
+// Whether the factor |r| / t is greater than |s| / u.
+fn exceeds(r: i64, t: u64, s: i64, u: u64) -> bool
+    ensures { λ x. ⌜ x ≡ is-greater (order (factor r t) (factor s u)) ⌝ }
+{
+    let order = fractions::compare(magnitude(r), t, magnitude(s), u);
+    match order {
+        Order::Less => false,
+        Order::Equal => false,
+        Order::Greater => true,
+    }
+}
+
+// The place, from 0, of the first row that has no factor, or of the first with the greatest.
+fn greatest_factor<'a>(n: usize, residuals: &'a [i64; 8], reaches: &'a [u64; 8]) -> usize
+    requires { ⌜ n ≤ 8 ⌝ }
+    ensures { λ r. ⌜ r ≡ first-greatest (λ i. factor (getD (now (residuals .entry)) i (pos 0)) (getD (now (reaches .entry)) i 0)) n ⌝ }
+{
+    let mut best = 0;
+    let mut i = 1;
+    while i < n {
+        if exceeds(residuals[i], reaches[i], residuals[best], reaches[best]) {
+            best = i;
+        }
+        i += 1;
+    }
+    best
+}
+
+// What is said of a trial. Rows are counted from 1.
+pub struct Judgement {
+    // whether every row is met, and the first row that is not, or 0
+    pub met: bool,
+    pub unmet: usize,
+    // whether some row has no factor, and the row that decides
+    pub none: bool,
+    pub decides: usize,
+    // residual and reach of each row, 0 past the last row
+    pub residuals: [i64; 8],
+    pub reaches: [u64; 8],
+}
+
+// The judgement of a trial for n rows over n tanks, whoever proposed it.
+pub fn judge<'a>(
+    n: usize,
+    scale: u16,
+    coefficients: &'a [i16; 64],
+    tolerances: &'a [u16; 64],
+    right_sides: &'a [i32; 8],
+    right_tolerances: &'a [u32; 8],
+    trial: &'a [i32; 8],
+) -> Judgement
+    requires { ⌜ n ≤ 8 ⌝ }
+    ensures { λ r. ⌜ r ≡ judgement (system n (now (coefficients .entry)) (now (tolerances .entry)) (now («right_sides» .entry)) (now («right_tolerances» .entry))) (trialOf n scale (now (trial .entry))) ⌝ }
+{
+    let residuals = all_residuals(n, scale, coefficients, right_sides, trial);
+    let reaches = all_reaches(n, scale, tolerances, right_tolerances, trial);
+    let unmet = first_beyond(n, &residuals, &reaches);
+    let at = greatest_factor(n, &residuals, &reaches);
+    Judgement {
+        met: unmet == 0,
+        unmet,
+        none: lacks_factor(residuals[at], reaches[at]),
+        decides: at + 1,
+        residuals,
+        reaches,
+    }
+}

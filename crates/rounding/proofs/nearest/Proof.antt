@@ -1,0 +1,42 @@
+-- `rounding::nearest` meets its contract. Where the quotient goes up, the divisor is at least 2, so that the next number fits.
+-- Assumes nothing.
+use mathlib.Core.Path.{_≡_, sym, ap, _∙_}
+use Prim.Native.Nat.{ℕ, _+_, _*_, _/_, _%_, _<_, _≤_, _^_}
+use native.Mathlib.Nat.{mod-lt, div-add-mod', mul-le-mul-left}
+use native.Mathlib.Omega.{arith}
+use borrow.Author.Needs.{needs}
+use Rattle.rounding.specs.Half.{up-half}
+use Rattle.rounding.specs.Laws.{near-by}
+use Rattle.rounding.proofs.nearest.Statement.{statement}
+use Rattle.rounding.proofs.nearest.Tie as tie
+
+div-q : tie.Need-div-q
+div-q c = search needs
+
+rem-r : tie.Need-rem-r
+rem-r c = search needs
+
+rounds-up-requires : tie.Need-rounds-up-requires
+rounds-up-requires c κs = mod-lt (c .args .a) (c .pre)
+
+next-fits : (a b : ℕ) → a < 2 ^ 64 → 2 ≤ b → a / b + 1 < 2 ^ 64
+next-fits a b h k = omega (arith, div-add-mod' a b, mul-le-mul-left (a / b) k)
+
+add-result : tie.Need-add-result
+add-result c =
+    let g = c .before .before in
+    let h = up-half (g .args .a / g .args .b) (g .args .a % g .args .b) (g .args .b) (sym (c .before .rounds-up .ensures) ∙ c .if1 .taken) in
+    record { fits = next-fits (g .args .a) (g .args .b) (g .fits .a .fits) (omega (arith, mod-lt (g .args .a) (g .pre))) }
+
+returns : tie.Need-returns
+returns c =
+    let g = c .before .before in
+    sym (near-by (g .args .a) (g .args .b) (g .pre) ∙ rw (← c .before .rounds-up .ensures, c .if1 .taken))
+
+returns-2 : tie.Need-returns-2
+returns-2 c =
+    let g = c .before .before in
+    sym (near-by (g .args .a) (g .args .b) (g .pre) ∙ rw (← c .before .rounds-up .ensures, c .if1 .left) (omega arith))
+
+pub nearest-spec : {M : Type 1} → statement M
+nearest-spec = tie.close (tie.spec div-q rem-r rounds-up-requires add-result returns returns-2)

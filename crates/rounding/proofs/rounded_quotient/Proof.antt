@@ -1,0 +1,121 @@
+-- `rounding::rounded_quotient` meets its contract: the magnitudes are rounded, and the tests of the signs give the sign. Assumes nothing.
+use mathlib.Core.Path.{_≡_, sym, ap, ap₂, _∙_, subst}
+use Prim.Native.Nat.{ℕ, _≤_, _<_, _^_}
+use native.Mathlib.Omega.{arith}
+use lib.IntN.{ℤ, pos, negℤ, natAbs}
+use mir.Syntax.{w64}
+use mir.Val.{SFits, toZ, ofZ}
+use mir.Facts.{toZ-ofZ, toZ-pos}
+use borrow.Author.Needs.{needs}
+use Rattle.integers.specs.Size.{size-sfits, natAbs-negℤ}
+use Rattle.rounding.specs.Round.{near, rnd}
+use Rattle.rounding.specs.Laws.{rnd-signs}
+use Rattle.rounding.proofs.rounded_quotient.Statement.{statement}
+use Rattle.rounding.proofs.rounded_quotient.Tie as tie
+
+-- a magnitude whose number fits
+fits-pos : (m : ℕ) (z : ℤ) → SFits w64 z → z ≡ pos m → SFits w64 (pos m)
+fits-pos m z f e = subst (λ t. SFits w64 t) e f
+
+toZ-fits : (m : ℕ) → SFits w64 (pos m) → toZ w64 m ≡ pos m
+toZ-fits m f = toZ-pos w64 (f .sfits)
+
+size-neg : (m : ℕ) (z : ℤ) → SFits w64 z → z ≡ negℤ (pos m) → m ≤ 2 ^ 63
+size-neg m z f e = omega (arith, size-sfits f, ap natAbs e, natAbs-negℤ (pos m))
+
+module _ (c : tie.After-nearest) where
+  abbrev p′ : ℤ
+  p′ = c .before .before .before .args .p
+
+  abbrev q′ : ℤ
+  q′ = c .before .before .before .args .q
+
+  abbrev m′ : ℕ
+  m′ = c .nearest .result
+
+  p-is : toZ w64 (ofZ w64 p′) ≡ p′
+  p-is = toZ-ofZ (c .before .before .before .fits .p)
+
+  q-is : toZ w64 (ofZ w64 q′) ≡ q′
+  q-is = toZ-ofZ (c .before .before .before .fits .q)
+
+  m-is : m′ ≡ near (natAbs p′) (natAbs q′)
+  m-is =
+      c .nearest .ensures
+      ∙ ap₂ near (c .before .before .magnitude .ensures ∙ ap natAbs p-is) (c .before .magnitude2 .ensures ∙ ap natAbs q-is)
+
+-- the result, where the signs agree and where they do not
+both-below : (c : tie.Then2) → rnd (p′ (c .before .before)) (q′ (c .before .before)) ≡ pos (m′ (c .before .before))
+both-below c =
+    let d = c .before .before in
+    rnd-signs (p′ d) (q′ d) ∙ rw (rw (p-is d) at (c .before .if1 .taken), rw (q-is d) at (c .if2 .taken), ← m-is d)
+
+below : (c : tie.Else2) → rnd (p′ (c .before .before)) (q′ (c .before .before)) ≡ negℤ (pos (m′ (c .before .before)))
+below c =
+    let d = c .before .before in
+    rnd-signs (p′ d) (q′ d) ∙ rw (rw (p-is d) at (c .before .if1 .taken), rw (q-is d) at (c .if2 .left), ← m-is d)
+
+divisor-below : (c : tie.Then3) → rnd (p′ (c .before .before)) (q′ (c .before .before)) ≡ negℤ (pos (m′ (c .before .before)))
+divisor-below c =
+    let d = c .before .before in
+    rnd-signs (p′ d) (q′ d) ∙ rw (rw (p-is d) at (c .before .if1 .left), rw (q-is d) at (c .if3 .taken), ← m-is d)
+
+none-below : (c : tie.Else3) → rnd (p′ (c .before .before)) (q′ (c .before .before)) ≡ pos (m′ (c .before .before))
+none-below c =
+    let d = c .before .before in
+    rnd-signs (p′ d) (q′ d) ∙ rw (rw (p-is d) at (c .before .if1 .left), rw (q-is d) at (c .if3 .left), ← m-is d)
+
+magnitude-requires : tie.Need-magnitude-requires
+magnitude-requires c κs = search needs
+
+magnitude-requires-2 : tie.Need-magnitude-requires-2
+magnitude-requires-2 c κs = search needs
+
+nearest-requires : tie.Need-nearest-requires
+nearest-requires c κs =
+    let e = rw (toZ-ofZ (c .before .before .fits .q)) at (c .magnitude2 .ensures) in
+    rw e (c .before .before .pre .divisor)
+
+cast-result : tie.Need-cast-result
+cast-result c = fits-pos _ _ (c .before .before .before .before .before .pre .fits) (both-below c)
+
+negated-requires : tie.Need-negated-requires
+negated-requires c κs = size-neg _ _ (c .before .before .before .before .before .pre .fits) (below c)
+
+negated-requires-2 : tie.Need-negated-requires-2
+negated-requires-2 c κs = size-neg _ _ (c .before .before .before .before .before .pre .fits) (divisor-below c)
+
+cast-result-2 : tie.Need-cast-result-2
+cast-result-2 c = fits-pos _ _ (c .before .before .before .before .before .pre .fits) (none-below c)
+
+returns : tie.Need-returns
+returns c = toZ-fits _ (cast-result c) ∙ sym (both-below c)
+
+returns-2 : tie.Need-returns-2
+returns-2 c =
+    let e = c .negated .ensures ∙ sym (below (c .before)) in
+    rw e (toZ-ofZ (c .before .before .before .before .before .before .pre .fits))
+
+returns-3 : tie.Need-returns-3
+returns-3 c =
+    let e = c .negated2 .ensures ∙ sym (divisor-below (c .before)) in
+    rw e (toZ-ofZ (c .before .before .before .before .before .before .pre .fits))
+
+returns-4 : tie.Need-returns-4
+returns-4 c = toZ-fits _ (cast-result-2 c) ∙ sym (none-below c)
+
+pub rounded-quotient-spec : {M : Type 1} → statement M
+rounded-quotient-spec =
+    tie.close
+    (tie.spec
+    magnitude-requires
+    magnitude-requires-2
+    nearest-requires
+    cast-result
+    negated-requires
+    negated-requires-2
+    cast-result-2
+    returns
+    returns-2
+    returns-3
+    returns-4)

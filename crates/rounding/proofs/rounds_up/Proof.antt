@@ -1,0 +1,15 @@
+-- `rounding::rounds_up` meets its contract: it is the test of the rule for halves. Assumes nothing.
+use borrow.Author.Needs.{needs}
+use Rattle.rounding.specs.Half.{rounds-up}
+use Rattle.rounding.proofs.rounds_up.Statement.{statement}
+use Rattle.rounding.proofs.rounds_up.Tie as tie
+
+sub-result : tie.Need-sub-result
+sub-result c = search needs
+
+returns : tie.Need-returns
+unfolding rounds-up
+returns c = search needs
+
+pub rounds-up-spec : {M : Type 1} → statement M
+rounds-up-spec = tie.close (tie.spec sub-result returns)

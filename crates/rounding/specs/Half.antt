@@ -1,0 +1,23 @@
+-- The rule for halves: "a half goes away from zero, on both sides of zero". It stands here alone, on magnitudes. Nothing outside this file and
+-- the proof of the code's own test unfolds it: all laws of rounding rest on the two laws below. Assumes nothing.
+use mathlib.Core.Path.{_≡_, sym, subst}
+use mathlib.Core.Bool.{Bool, true, false}
+use Prim.Native.Nat.{ℕ, _*_, _-_, _≤_}
+use native.Mathlib.Omega.{arith}
+use lib.Dec.{leb}
+use borrow.Author.Tests.{leb-true, leb-false}
+
+-- whether a magnitude with this whole quotient, remainder and divisor goes up to the next whole number: the remainder is at least what is left
+-- of the divisor (the quotient is for a rule that looks at its last digit)
+unfoldable pub rounds-up : ℕ → ℕ → ℕ → Bool
+rounds-up quotient remainder divisor = leb (divisor - remainder) remainder
+
+-- what goes up has at least a half
+pub up-half : (q r b : ℕ) → rounds-up q r b ≡ true → b ≤ 2 * r
+unfolding rounds-up
+up-half q r b e = omega (arith, leb-true (b - r) r e)
+
+-- what stays has at most a half
+pub stays-half : (q r b : ℕ) → rounds-up q r b ≡ false → 2 * r ≤ b
+unfolding rounds-up
+stays-half q r b e = omega (arith, leb-false (b - r) r e)

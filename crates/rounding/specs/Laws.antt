@@ -1,0 +1,161 @@
+-- What a caller may use of `rnd`. All of it rests on the two laws of the rule for halves, and none of it on the rule. Assumes nothing.
+use mathlib.Core.Path.{_≡_, refl, sym, ap, _∙_}
+use mathlib.Core.Bool.{Bool, true, false, cond}
+use Prim.Native.Nat.{ℕ, zero, suc, _+_, _*_, _/_, _%_, _^_, _<_, _≤_}
+use native.Mathlib.Nat.{le-antisymm, mul-le-mul-left, div-add-mod', mod-lt, mul-comm}
+use native.Mathlib.Decide.{decLt}
+use native.Mathlib.Omega.{arith}
+use lib.Dec.{leb·suc-zero}
+use lib.IntN.{ℤ, pos, negsuc, negℤ, natAbs, _-ℤ_, _*ℤ_, negℤ-negℤ}
+use lib.Signed.{ltZ}
+use Rattle.integers.specs.Diff.{abs-parts, one-side, sub-parts, neg-parts}
+use Rattle.integers.specs.Ring.{negℤ-*ℤ, *ℤ-negℤ}
+use Rattle.integers.specs.Size.{natAbs-negℤ, sfits-size}
+use Rattle.rounding.specs.Half.{rounds-up, up-half, stays-half}
+use Rattle.rounding.specs.Round.{one-if, near, rnd, Defined}
+
+-- ---- of naturals: within half of the divisor
+
+-- with the quotient d and the remainder r of a by b
+within : (a b d r : ℕ) (up : Bool) → d * b + r ≡ a → r < b → (up ≡ true → b ≤ 2 * r) → (up ≡ false → 2 * r ≤ b)
+    → (2 * (b * (d + one-if up)) ≤ 2 * a + b) × (2 * a ≤ 2 * (b * (d + one-if up)) + b)
+within a b d r true e l h k = let i = h refl in (omega arith, omega arith)
+within a b d r false e l h k = let i = k refl in (omega arith, omega arith)
+
+near-within : (a b : ℕ) → 0 < b → (2 * (b * near a b) ≤ 2 * a + b) × (2 * a ≤ 2 * (b * near a b) + b)
+unfolding near
+near-within a zero h = absurd (omega arith)
+near-within a (suc b) h =
+    within a (suc b) (a / suc b) (a % suc b) (rounds-up (a / suc b) (a % suc b) (suc b)) (div-add-mod' a (suc b)) (mod-lt a h)
+    (up-half (a / suc b) (a % suc b) (suc b)) (stays-half (a / suc b) (a % suc b) (suc b))
+
+near-le : (a b m : ℕ) → a ≤ m * b → near a b ≤ m
+unfolding near
+near-le a zero m h = omega arith
+near-le a (suc b) m h = go (decLt m (near a (suc b)))
+  where
+    go : Dec (m < near a (suc b)) → near a (suc b) ≤ m
+    go (yes p) = absurd (omega (arith, mul-le-mul-left (suc b) p, near-within a (suc b) (omega arith)))
+    go (no p) = omega arith
+
+near-zero : (b : ℕ) → near 0 b ≡ 0
+near-zero b = omega (arith, near-le 0 b 0 (omega arith))
+
+near-mul : (m b : ℕ) → 0 < b → near (m * b) b ≡ m
+near-mul m b h = le-antisymm (near-le (m * b) b m (omega arith)) (go (decLt (near (m * b) b) m))
+  where
+    go : Dec (near (m * b) b < m) → m ≤ near (m * b) b
+    go (yes p) = absurd (omega (arith, mul-le-mul-left b p, near-within (m * b) b h))
+    go (no p) = omega arith
+
+-- ---- of integers: magnitude and signs
+
+pub abs-rnd : (p q : ℤ) → natAbs (rnd p q) ≡ near (natAbs p) (natAbs q)
+unfolding rnd
+abs-rnd (pos a) (pos b) = refl
+abs-rnd (pos a) (negsuc b) = natAbs-negℤ (pos (near a (suc b)))
+abs-rnd (negsuc a) (pos b) = natAbs-negℤ (pos (near (suc a) b))
+abs-rnd (negsuc a) (negsuc b) = refl
+
+pub rnd-zero : (q : ℤ) → rnd (pos 0) q ≡ pos 0
+unfolding rnd
+rnd-zero (pos b) = ap pos (near-zero b)
+rnd-zero (negsuc b) = ap (λ (n : ℕ). negℤ (pos n)) (near-zero (suc b))
+
+near-none : (a : ℕ) → near a 0 ≡ 0
+unfolding near
+near-none a = refl
+
+-- odd in p, and odd in q
+pub rnd-neg : (p q : ℤ) → rnd (negℤ p) q ≡ negℤ (rnd p q)
+unfolding rnd
+rnd-neg (pos zero) q = rnd-zero q ∙ sym (ap negℤ (rnd-zero q))
+rnd-neg (pos (suc a)) (pos b) = refl
+rnd-neg (pos (suc a)) (negsuc b) = sym (negℤ-negℤ (pos (near (suc a) (suc b))))
+rnd-neg (negsuc a) (pos b) = sym (negℤ-negℤ (pos (near (suc a) b)))
+rnd-neg (negsuc a) (negsuc b) = refl
+
+pub rnd-by-neg : (p q : ℤ) → rnd p (negℤ q) ≡ negℤ (rnd p q)
+unfolding rnd
+rnd-by-neg (pos a) (pos zero) = ap pos (near-none a) ∙ sym (ap (λ (n : ℕ). negℤ (pos n)) (near-none a))
+rnd-by-neg (pos a) (pos (suc b)) = refl
+rnd-by-neg (pos a) (negsuc b) = sym (negℤ-negℤ (pos (near a (suc b))))
+rnd-by-neg (negsuc a) (pos zero) =
+    ap (λ (n : ℕ). negℤ (pos n)) (near-none (suc a)) ∙ sym (ap (λ (n : ℕ). negℤ (negℤ (pos n))) (near-none (suc a)))
+rnd-by-neg (negsuc a) (pos (suc b)) = sym (negℤ-negℤ (pos (near (suc a) (suc b))))
+rnd-by-neg (negsuc a) (negsuc b) = refl
+
+-- ---- the laws of a nearest whole number
+
+-- no larger than any whole bound on the quotient
+pub rnd-le : (p q : ℤ) (m : ℕ) → natAbs p ≤ m * natAbs q → natAbs (rnd p q) ≤ m
+rnd-le p q m h = rw (abs-rnd p q) (near-le (natAbs p) (natAbs q) m h)
+
+-- x with the sign of p
+abbrev like : ℤ → ℕ → ℤ
+like (pos a) x = pos x
+like (negsuc a) x = negℤ (pos x)
+
+mul-rnd : (p q : ℤ) → q *ℤ rnd p q ≡ like p (natAbs q * near (natAbs p) (natAbs q))
+unfolding rnd
+mul-rnd (pos a) (pos b) = refl
+mul-rnd (pos a) (negsuc b) = *ℤ-negℤ (negsuc b) (pos (near a (suc b))) ∙ negℤ-negℤ (pos (suc b * near a (suc b)))
+mul-rnd (negsuc a) (pos b) = *ℤ-negℤ (pos b) (pos (near (suc a) b))
+mul-rnd (negsuc a) (negsuc b) = refl
+
+like-error : (p : ℤ) (x b : ℕ) → 2 * x ≤ 2 * natAbs p + b → 2 * natAbs p ≤ 2 * x + b → 2 * natAbs (like p x -ℤ p) ≤ b
+like-error (pos a) x b h k =
+    omega (arith, sub-parts (pos x) (pos a), abs-parts (pos x -ℤ pos a), one-side (pos x -ℤ pos a))
+like-error (negsuc a) x b h k =
+    omega (
+      arith,
+      sub-parts (negℤ (pos x)) (negsuc a),
+      neg-parts (pos x),
+      abs-parts (negℤ (pos x) -ℤ negsuc a),
+      one-side (negℤ (pos x) -ℤ negsuc a),
+    )
+
+-- q rnd(p/q) is within half of q from p
+pub rnd-near : (p q : ℤ) → 0 < natAbs q → 2 * natAbs (q *ℤ rnd p q -ℤ p) ≤ natAbs q
+rnd-near p q h =
+    let w = near-within (natAbs p) (natAbs q) h in
+    rw (mul-rnd p q) (like-error p (natAbs q * near (natAbs p) (natAbs q)) (natAbs q) (w .0) (w .1))
+
+exact-pos : (m : ℕ) (q : ℤ) → 0 < natAbs q → rnd (pos m *ℤ q) q ≡ pos m
+unfolding rnd
+exact-pos m (pos b) h = ap pos (near-mul m b h)
+exact-pos m (negsuc b) h =
+    rnd-neg (pos (m * suc b)) (negsuc b)
+    ∙ negℤ-negℤ (pos (near (m * suc b) (suc b)))
+    ∙ ap pos (near-mul m (suc b) h)
+
+-- exact at a multiple
+pub rnd-mul : (m q : ℤ) → 0 < natAbs q → rnd (m *ℤ q) q ≡ m
+rnd-mul (pos m) q h = exact-pos m q h
+rnd-mul (negsuc m) q h =
+    ap (λ t. rnd t q) (negℤ-*ℤ (pos (suc m)) q) ∙ rnd-neg (pos (suc m) *ℤ q) q ∙ ap negℤ (exact-pos (suc m) q h)
+
+-- ---- for code
+
+pub near-by : (a b : ℕ) → 0 < b → near a b ≡ a / b + one-if (rounds-up (a / b) (a % b) b)
+unfolding near
+near-by a zero h = absurd (omega arith)
+near-by a (suc b) h = refl
+
+-- by the tests of the signs
+pub rnd-signs : (p q : ℤ) → rnd p q ≡ cond (ltZ p (pos 0))
+    (cond (ltZ q (pos 0)) (pos (near (natAbs p) (natAbs q))) (negℤ (pos (near (natAbs p) (natAbs q)))))
+    (cond (ltZ q (pos 0)) (negℤ (pos (near (natAbs p) (natAbs q)))) (pos (near (natAbs p) (natAbs q))))
+unfolding rnd
+rnd-signs (pos a) (pos b) = rw (leb·suc-zero a, leb·suc-zero b)
+rnd-signs (pos a) (negsuc b) = rw (leb·suc-zero a)
+rnd-signs (negsuc a) (pos b) = rw (leb·suc-zero b)
+rnd-signs (negsuc a) (negsuc b) = refl
+
+-- a dividend that is not the least number has a quotient that fits
+pub defined : (p q : ℤ) → natAbs p < 2 ^ 63 → 0 < natAbs q → Defined p q
+defined p q h k =
+    record {
+      divisor = k;
+      fits = sfits-size (omega (arith, rnd-le p q (natAbs p) (omega (arith, mul-le-mul-left (natAbs p) k))));
+    }

@@ -1,0 +1,3 @@
+pub mod Half
+pub mod Round
+pub mod Laws
