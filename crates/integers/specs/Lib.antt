@@ -6,3 +6,4 @@ pub mod Poly
 pub mod Sums
 pub mod Tables
 pub mod Code
+pub mod Recipes

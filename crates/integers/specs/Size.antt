@@ -5,11 +5,11 @@
 -- Assumes nothing.
 use mathlib.Core.Path.{_≡_, refl}
 use Prim.Native.Nat.{ℕ, zero, suc, _+_, _*_, _^_, _≤_, _<_}
-use native.Mathlib.Nat.{mul-le-mul, le-trans, lt-of-le-of-lt}
+use native.Mathlib.Nat.{mul-le-mul, le-trans, lt-of-le-of-lt, lt-of-lt-of-le}
 use native.Mathlib.Omega.{arith}
 use lib.Dec.{T, leb, ltb, ltb→lt, leb→le}
 use lib.IntN.{ℤ, pos, negsuc, negℤ, natAbs, _+ℤ_, _-ℤ_, _*ℤ_}
-use lib.Pow.{pow-pos}
+use lib.Pow.{pow-pos, pow-mono}
 use lib.Signed.{mag, _≤ℤ_}
 use mir.Syntax.{Width}
 use mir.Val.{hbits, SFits}
@@ -82,6 +82,10 @@ size-sfits {w} {z} h = le-trans (natAbs-mag z) (h .sfits)
 pub sfits-negℤ : {w : Width} (m : ℕ) → m ≤ 2 ^ hbits w → SFits w (negℤ (pos m))
 sfits-negℤ {w} zero h = record { sfits = pow-pos (hbits w) }
 sfits-negℤ (suc m) h = record { sfits = h }
+
+-- what fits a width fits a wider one: `widen tt f`
+pub widen : {v w : Width} {z : ℤ} → T (leb (hbits v) (hbits w)) → SFits v z → SFits w z
+widen {v} {w} {z} t f = record { sfits = lt-of-lt-of-le (f .sfits) (pow-mono (leb→le (hbits v) (hbits w) t)) }
 
 -- the rules for `omega`
 pub ruleset fits = (sfits-size, size-sfits)

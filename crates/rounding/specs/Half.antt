@@ -1,16 +1,23 @@
 -- The rule for halves: "a half goes away from zero, on both sides of zero". It stands here alone, on magnitudes. Nothing outside this file and
--- the proof of the code's own test unfolds it: all laws of rounding rest on the two laws below. Assumes nothing.
-use mathlib.Core.Path.{_≡_, sym, subst}
+-- the proof of the code's own test unfolds it: all laws of rounding rest on the last two laws of this file. Assumes nothing.
+use mathlib.Core.Path.{_≡_}
 use mathlib.Core.Bool.{Bool, true, false}
 use Prim.Native.Nat.{ℕ, _*_, _-_, _≤_}
 use native.Mathlib.Omega.{arith}
 use lib.Dec.{leb}
-use borrow.Author.Tests.{leb-true, leb-false}
+use borrow.Author.Tests.{le-leb, leb-true, leb-false}
 
 -- whether a magnitude with this whole quotient, remainder and divisor goes up to the next whole number: the remainder is at least what is left
 -- of the divisor (the quotient is for a rule that looks at its last digit)
 unfoldable pub rounds-up : ℕ → ℕ → ℕ → Bool
 rounds-up quotient remainder divisor = leb (divisor - remainder) remainder
+
+-- "a half goes away from zero": the magnitude goes up
+half-away : (q r b : ℕ) → 2 * r ≡ b → rounds-up q r b ≡ true
+unfolding rounds-up
+half-away q r b e = le-leb (b - r) r (omega arith)
+
+-- ---- what every rule for halves has, and all that is used of this one
 
 -- what goes up has at least a half
 pub up-half : (q r b : ℕ) → rounds-up q r b ≡ true → b ≤ 2 * r

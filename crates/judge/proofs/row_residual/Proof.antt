@@ -9,7 +9,7 @@ use mir.Syntax.{w16, w32, w64}
 use mir.Val.{SFits, toZ}
 use mir.Facts.{toZ-ofZ, toZ-pos}
 use borrow.Author.Needs.{needs}
-use Rattle.integers.specs.Size.{at-most, bounds, sfits-by, size-by, size-sfits, natAbs-+ℤ}
+use Rattle.integers.specs.Size.{at-most, bounds, sfits-by, size-by, size-sfits, widen, natAbs-+ℤ}
 use Rattle.integers.specs.Sums.{sum, sum-more}
 use Rattle.judge.proofs.row_residual.Statement.{statement}
 use Rattle.judge.proofs.row_residual.Tie as tie
@@ -96,7 +96,7 @@ element-copy-out-a c = search needs
 cast-a : tie.Need-cast-a Inv-loop μ-loop
 cast-a c =
     let f : SFits w16 (getD (c .before .before .before .args .coefficients .now) (c .before .before .before .args .from + c .before .before .loop .j) (pos 0)) = record { sfits = c .a .given } in
-    simp toZ-ofZ (omega (arith, size-sfits f))
+    simp toZ-ofZ (widen tt f)
 
 mul-y : tie.Need-mul-y Inv-loop μ-loop
 mul-y c = search needs

@@ -9,18 +9,15 @@ use mir.Syntax.{w32, w64}
 use mir.Val.{SFits}
 use mir.Facts.{toZ-ofZ}
 use borrow.Author.Needs.{needs}
-use Rattle.integers.specs.Size.{size-sfits, fits}
+use Rattle.integers.specs.Size.{size-sfits, widen}
 use Rattle.judge.proofs.weight.Statement.{statement}
 use Rattle.judge.proofs.weight.Tie as tie
-
-wide : (y : ℤ) → SFits w32 y → SFits w64 y
-wide y f = omega (arith, fits, size-sfits f)
 
 module _ (c : tie.After-magnitude) where
   y-is : c .magnitude .result ≡ natAbs (c .before .args .figure)
   y-is =
       let f = c .before .fits .figure in
-      let w = wide (c .before .args .figure) f in
+      let w : SFits w64 (c .before .args .figure) = widen tt f in
       simp toZ-ofZ at (c .magnitude .ensures)
 
   small : c .before .args .tolerance * c .magnitude .result ≤ 2 ^ 47
@@ -29,7 +26,7 @@ module _ (c : tie.After-magnitude) where
       rw y-is (le-trans (mul-le-mul h (size-sfits (c .before .fits .figure))) (lit≤ tt))
 
 cast-magnitude : tie.Need-cast-magnitude
-cast-magnitude c = let f = c .fits .figure in simp toZ-ofZ (wide (c .args .figure) f)
+cast-magnitude c = let f = c .fits .figure in simp toZ-ofZ (widen tt f)
 
 magnitude-requires : tie.Need-magnitude-requires
 magnitude-requires c κs = search needs
