@@ -71,3 +71,27 @@ module _ {X : Type 0} (z : X) (f : ℕ → X) where
   pub getD-filled : (m n i : ℕ) → i < n → i < m → getD (filled m n z f) i z ≡ f i
   unfolding filled
   getD-filled m n i h k = getD-table m (until n z f) i z k ∙ at-until n i h
+
+-- ---- what holds at every place, past the end too, where the default stands
+
+module _ {X : Type 0} (P : X → Type 0) (d : X) (h : P d) where
+  pub all-table : (m : ℕ) (f : ℕ → X) → ((i : ℕ) → P (f i)) → (j : ℕ) → P (getD (table m f) j d)
+  all-table zero f k j = h
+  all-table (suc m) f k zero = k 0
+  all-table (suc m) f k (suc j) = all-table m (λ i. f (suc i)) (λ i. k (suc i)) j
+
+  pub all-filled : (m n : ℕ) (f : ℕ → X) → ((i : ℕ) → i < n → P (f i)) → (j : ℕ) → P (getD (filled m n d f) j d)
+  unfolding filled
+  all-filled m n f k = all-table m (until n d f) (λ i. go i (decLt i n))
+    where
+      go : (i : ℕ) → Dec (i < n) → P (until n d f i)
+      go i (yes l) = rw (lt-ltb i n l) (k i l)
+      go i (no l) = let g : n ≤ i = omega arith in rw (le-ltb i n g) h
+
+-- what holds of each entry by its index, past the end too, holds after a store
+pub all-set-at : {X : Type 0} (P : ℕ → X → Type 0) (d : X) (l : List X) (i : ℕ) (x : X) → P i x → ((j : ℕ) → P j (getD l j d)) → (j : ℕ) → P j (getD (set l i x) j d)
+all-set-at P d [] i x p h j = h j
+all-set-at P d (y ∷ l) zero x p h zero = p
+all-set-at P d (y ∷ l) zero x p h (suc j) = h (suc j)
+all-set-at P d (y ∷ l) (suc i) x p h zero = h zero
+all-set-at P d (y ∷ l) (suc i) x p h (suc j) = all-set-at (λ m. P (suc m)) d l i x p (λ m. h (suc m)) j

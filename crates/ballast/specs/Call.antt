@@ -1,0 +1,124 @@
+-- The call that takes a case and a result buffer and leaves the record: what it answers and what the buffer then holds, in document 01's order.
+-- Definitions only. Assumes nothing.
+use mathlib.Core.Path.{_≡_}
+use mathlib.Core.Bool.{false, cond}
+use mathlib.Core.List.{List}
+use Prim.Native.Nat.{ℕ, zero, suc, _^_, _≤_}
+use lib.Dec.{leb}
+use lib.ListN.{length}
+use lib.IntN.{pos}
+use Rattle.outcome.specs.declared.Refusal.{Refusal}
+use Rattle.outcome.specs.declared.Refusal.the-variants.{BufferTooShort, ZeroPivot, OutsideRange}
+use Rattle.outcome.specs.declared.Outcome.the-variants.{Count, Refused}
+use Rattle.outcome.specs.declared.Status.{Status as FileStatus}
+use Rattle.outcome.specs.declared.Status.the-variants.{Accepted, Refused as RefusedBy}
+use Rattle.integers.specs.Tables.{table}
+use Rattle.bigendian.specs.Number.{onto}
+use Rattle.casefile.specs.declared.Case.{Case}
+use Rattle.casefile.specs.Decode.{Decoded, accepted, refused, decode, stored}
+use Rattle.casefile.specs.Write.{Written}
+use Rattle.judge.specs.declared.Judgement.{Judgement}
+use Rattle.judge.specs.System.{System, system, trial}
+use Rattle.judge.specs.Judgement.{judgement}
+use Rattle.solver.specs.declared.Solution.{Solution}
+use Rattle.solver.specs.declared.Status.{Status}
+use Rattle.solver.specs.declared.Status.the-variants.{Answered, ZeroPivot as NoPivot, OutsideRange as Outside}
+use Rattle.solver.specs.Solution.{solution}
+use Rattle.solver.specs.Limits.{Limits}
+use Rattle.recordfile.specs.Layout.{recordOf, recordLength}
+use Rattle.ballast.specs.declared.Answer.{Answer}
+
+-- "D is 10 to the power e"
+abbrev pub scaleOf : ℕ → ℕ
+scaleOf e = 10 ^ e
+
+-- the rows of a case, as it is held in memory: its figures with zeros behind them
+abbrev pub systemOf : Case → System
+systemOf c = system (c .n) (c .coefficients) (c .tolerances) (c .«right_sides») (c .«right_tolerances»)
+
+-- "0 means that the case brings its trial", with no round used
+abbrev pub brought : Case → Solution
+brought c =
+    record {
+      status = Answered;
+      rounds = 0;
+      trial = c .trial;
+      judgement = judgement (systemOf c) (trial (c .n) (scaleOf (c .exponent)) (c .trial));
+    }
+
+-- "that answer is the trial brought or, for K above 0, the one kept from the steps"
+abbrev pub worked-in : ℕ → Case → Solution
+worked-in zero c = brought c
+worked-in (suc k) c = solution (systemOf c) (scaleOf (c .exponent)) (suc k)
+
+unfoldable pub worked : Case → Solution
+worked c = worked-in (c .rounds) c
+
+-- ---- the answer of a file, with no record written
+
+-- refusals 8 and 9 "come only when the whole case has been read"
+abbrev pub status-of : Status → FileStatus
+status-of Answered = Accepted
+status-of NoPivot = RefusedBy ZeroPivot
+status-of Outside = RefusedBy OutsideRange
+
+abbrev pub answer-with : ℕ → ℕ → Solution → Answer
+answer-with n exponent a =
+    record {
+      status = status-of (a .status);
+      n = n;
+      exponent = exponent;
+      rounds = a .rounds;
+      trial = a .trial;
+      judgement = a .judgement;
+    }
+
+-- beside a refusal of the reading all figures are zero
+abbrev pub no-judgement : Judgement
+no-judgement =
+    record {
+      met = false;
+      unmet = 0;
+      none = false;
+      decides = 0;
+      residuals = table 8 (λ i. pos 0);
+      reaches = table 8 (λ i. 0);
+    }
+
+abbrev pub no-answer : Refusal → Answer
+no-answer r =
+    record { status = RefusedBy r; n = 0; exponent = 0; rounds = 0; trial = table 8 (λ i. pos 0); judgement = no-judgement }
+
+unfoldable pub answer-of : Decoded → Answer
+answer-of (accepted c) = answer-with (stored c .n) (stored c .exponent) (worked (stored c))
+answer-of (refused r) = no-answer r
+
+-- ---- the call
+
+-- "Any refusal .. returns its number and changes no byte"
+abbrev pub refusing : Refusal → List ℕ → Written
+refusing r out = record { outcome = Refused r; buffer = out }
+
+-- "The result buffer beyond the record stays as it was. The count returned is the record's length."
+abbrev pub finished-by : FileStatus → Answer → List ℕ → Written
+finished-by Accepted a out =
+    record { outcome = Count (recordLength (a .n)); buffer = onto (recordOf (a .n) (a .rounds) (a .trial) (a .judgement)) out }
+finished-by (RefusedBy r) a out = refusing r out
+
+unfoldable pub finished : Answer → List ℕ → Written
+finished a out = finished-by (a .status) a out
+
+-- "The result buffer is shorter than 180 bytes", checked once and first
+abbrev pub shortest : ℕ
+shortest = 180
+
+unfoldable pub call : List ℕ → List ℕ → Written
+call input out = cond (leb shortest (length out)) (finished (answer-of (decode input)) out) (refusing BufferTooShort out)
+
+-- ---- what the parts of the call ask
+
+-- a case to be worked out: at most 8 rows, an exponent of at most 3, and figures with which nothing wraps
+pub record Workable (c : Case) : Type 0 where
+  pub rows : c .n ≤ 8
+  pub exponent-small : c .exponent ≤ 3
+  pub limits : Limits (systemOf c) (scaleOf (c .exponent))

@@ -1,0 +1,215 @@
+-- The third demand holds of every record that the call leaves: what is read off the bytes is the judgement of the recorded answer, and that is
+-- justified by the theorem of Oettli and Prager. Assumes nothing.
+use mathlib.Core.Path.{_≡_, refl, sym, ap, ap₂, subst, _∙_}
+use mathlib.Core.Bool.{Bool, true, false, cond}
+use mathlib.Core.List.{List}
+use Prim.Native.Nat.{ℕ, zero, suc, _^_, _≤_, _<_}
+use native.Mathlib.Omega.{arith}
+use lib.Dec.{eqb, leb}
+use lib.ListN.{length, getD, take}
+use lib.IntN.{ℤ, pos, natAbs}
+use mir.Syntax.{w32, w64}
+use mir.Val.{SFits}
+use Rattle.integers.specs.Size.{sfits-size}
+use Rattle.fractions.specs.Greatest.{first-greatest-below}
+use Rattle.outcome.specs.declared.Refusal.the-variants.{BufferTooShort}
+use Rattle.outcome.specs.declared.Outcome.{Outcome}
+use Rattle.outcome.specs.declared.Status.{Status as FileStatus}
+use Rattle.outcome.specs.declared.Status.the-variants.{Accepted, Refused as RefusedBy}
+use Rattle.ballast.specs.declared.Answer.{Answer as FileAnswer}
+use Rattle.outcome.specs.declared.Outcome.the-variants.{Count, Refused}
+use Rattle.bigendian.specs.Number.{onto}
+use Rattle.bigendian.specs.BufferLaws.{take-onto}
+use Rattle.casefile.specs.Case.{Case}
+use Rattle.casefile.specs.CaseLaws.{Good, good, decode-fine}
+use Rattle.casefile.specs.Decode.{Decoded, accepted, refused, decode, stored}
+use Rattle.casefile.specs.Write.{Written, leaves}
+use Rattle.judge.specs.System.{System, Trial, row, trial, residual, reach}
+use Rattle.judge.specs.Judgement.{no-factor, first-unmet, deciding, judgement}
+use Rattle.judge.specs.Finding.{Finding, finding, Justified, Agrees}
+use Rattle.judge.specs.Laws.{first-not-suc, at-residuals, at-reaches}
+use Rattle.judge.specs.Theorem.{justified}
+use Rattle.recordfile.specs.Layout.{recordOf, recordLength, Holds}
+use Rattle.recordfile.specs.Laws.{length-record}
+use Rattle.recordfile.specs.ReadOff.{recordedRounds, recordedAnswer, recordedFinding}
+use Rattle.recordfile.specs.ReadOffLaws.{recorded-met, recorded-unmet, recorded-rounds, recorded-answer, recorded-residual, recorded-reach, recorded-none, recorded-decides}
+use Rattle.solver.specs.declared.Solution.{Solution}
+use Rattle.solver.specs.declared.Status.{Status}
+use Rattle.solver.specs.declared.Status.the-variants.{Answered, ZeroPivot, OutsideRange}
+use Rattle.solver.specs.Claims.{Answer}
+use Rattle.solver.specs.Answers.{answer, rounds}
+use Rattle.solver.specs.Sizes.{residual-le}
+use Rattle.ballast.specs.Call.{scaleOf, systemOf, brought, worked-in, worked, answer-of, finished, finished-by, refusing, shortest, call, Workable}
+use Rattle.ballast.specs.CallLaws.{answering}
+use Rattle.ballast.specs.Demand.{recorded, Finished, Demand, Demanded, Promise}
+use Rattle.ballast.specs.Bounds.{limits, trial-figures, reach-le}
+use Rattle.ballast.specs.Agreement.{agrees-with}
+
+-- ---- the answer, brought or worked out: within its limits, and beside its own judgement
+
+module _ (c : Case) (g : Good c) where
+  worked-in-answer : (k : ℕ) → Answer (systemOf (stored c)) (scaleOf (c .exponent)) (worked-in k (stored c))
+  unfolding stored
+  worked-in-answer zero = record { figures = trial-figures c g; judgement-is = refl }
+  worked-in-answer (suc k) = answer (systemOf (stored c)) (scaleOf (c .exponent)) (suc k)
+
+  worked-answer : Answer (systemOf (stored c)) (scaleOf (c .exponent)) (worked (stored c))
+  unfolding worked
+  worked-answer = worked-in-answer (stored c .rounds)
+
+-- ---- what is read off a record of n rows
+
+module _ (s : System) (D rounds : ℕ) (Y : List ℤ) (h : 0 < s .n) (k : s .n ≤ 8)
+    (fits-answer : (i : ℕ) → SFits w32 (getD Y i (pos 0)))
+    (fits-residual : (i : ℕ) → SFits w64 (residual (row s i) (trial (s .n) D Y)))
+    (fits-reach : (i : ℕ) → reach (row s i) (trial (s .n) D Y) < 256 ^ 8) where
+  abbrev t : Trial
+  t = trial (s .n) D Y
+
+  abbrev bytes : List ℕ
+  bytes = recordOf (s .n) rounds Y (judgement s t)
+
+  decides-below : deciding s t < s .n
+  unfolding deciding
+  decides-below = first-greatest-below _ (s .n) (s .n) (omega arith) h
+
+  -- the bytes agree with the judgement
+  said : Agrees s t (recordedFinding (s .n) bytes)
+  unfolding judgement
+  said =
+      record {
+        met = recorded-met (s .n) rounds Y (judgement s t);
+        unmet = recorded-unmet (s .n) rounds Y (judgement s t);
+        none =
+            recorded-none (s .n) rounds Y (judgement s t)
+            ∙ ap₂ no-factor (at-residuals s t k (deciding s t) decides-below) (at-reaches s t k (deciding s t) decides-below);
+        decides = recorded-decides (s .n) rounds Y (judgement s t);
+        R = λ i l. recorded-residual (s .n) rounds Y (judgement s t) i l (rw (at-residuals s t k i l) (fits-residual i)) ∙ at-residuals s t k i l;
+        T = λ i l. recorded-reach (s .n) rounds Y (judgement s t) i l (rw (at-reaches s t k i l) (fits-reach i)) ∙ at-reaches s t k i l;
+      }
+
+  answered : (j : ℕ) → j < s .n → recordedAnswer bytes j ≡ getD Y j (pos 0)
+  answered j l = recorded-answer (s .n) rounds Y (judgement s t) j l (fits-answer j)
+
+  -- so what they say of the answer that they hold is justified
+  record-justified : Justified s (record { n = s .n; D = D; Y = recordedAnswer bytes }) (recordedFinding (s .n) bytes)
+  record-justified =
+      justified s (record { n = s .n; D = D; Y = recordedAnswer bytes }) h (recordedFinding (s .n) bytes)
+      (agrees-with t (recordedAnswer bytes) (λ j l. sym (answered j l)) s (recordedFinding (s .n) bytes) said)
+
+-- ---- a finished case
+
+module _ (c : Case) (g : Good c) where
+  abbrev a : Solution
+  a = worked (stored c)
+
+  fits-figure : (i : ℕ) → SFits w32 (getD (a .trial) i (pos 0))
+  fits-figure i = sfits-size (omega (arith, worked-answer c g .figures i))
+
+  fits-residual : (i : ℕ) → SFits w64 (residual (row (systemOf (stored c)) i) (trial (c .n) (scaleOf (c .exponent)) (a .trial)))
+  unfolding stored
+  fits-residual i =
+      sfits-size (omega (arith, residual-le (systemOf (stored c)) (scaleOf (c .exponent)) (a .trial) (limits c g) (worked-answer c g .figures) i))
+
+  -- the bytes of its record, by the judgement of the kept answer
+  finished-case : Finished c (recordOf (c .n) (a .rounds) (a .trial) (a .judgement))
+  unfolding stored
+  finished-case =
+      rw (worked-answer c g .judgement-is)
+      (record {
+        answer = λ j l. answered (systemOf (stored c)) (scaleOf (c .exponent)) (a .rounds) (a .trial) (omega (arith, g .least)) (g .small) fits-figure fits-residual (reach-le c g (a .trial) (worked-answer c g .figures)) j l;
+        rounds = recorded-rounds (c .n) (a .rounds) (a .trial) (judgement (systemOf (stored c)) (trial (c .n) (scaleOf (c .exponent)) (a .trial)));
+        justified = record-justified (systemOf (stored c)) (scaleOf (c .exponent)) (a .rounds) (a .trial) (omega (arith, g .least)) (g .small) fits-figure fits-residual (reach-le c g (a .trial) (worked-answer c g .figures));
+      })
+
+-- ---- the call
+
+-- a count comes only from an answer, and the bytes at the buffer's front are its record
+counted : (t : FileStatus) (x : FileAnswer) (m : ℕ) (out : List ℕ) → finished-by t x out .outcome ≡ Count m
+    → (t ≡ Accepted) × (take m (finished-by t x out .buffer) ≡ recordOf (x .n) (x .rounds) (x .trial) (x .judgement))
+counted Accepted x m out e =
+    let q : recordLength (x .n) ≡ m = cc in (
+      refl,
+      rw (← q, ← length-record (x .n) (x .rounds) (x .trial) (x .judgement)) (take-onto (recordOf (x .n) (x .rounds) (x .trial) (x .judgement)) out),
+    )
+counted (RefusedBy r) x m out e = let z : _≡_ {A = ℕ} 0 1 = cc in absurd (omega arith)
+
+module _ (input out : List ℕ) where
+  answer-demand : (d : Decoded) → decode input ≡ d → (m : ℕ) → finished (answer-of d) out .outcome ≡ Count m → Demand input (finished (answer-of d) out .buffer) m
+  unfolding finished answer-of stored
+  answer-demand (accepted c) q m e =
+      let g = good c (decode-fine input c q) in
+      let k = counted (answer-of (accepted c) .status) (answer-of (accepted c)) m out e in
+      record { case = c; read = q; finished = rw (k .1) (finished-case c g) }
+  answer-demand (refused r) q m e = let z : _≡_ {A = ℕ} 0 1 = cc in absurd (omega arith)
+
+  roomy-demand : (b : Bool) (m : ℕ) → cond b (finished (answer-of (decode input)) out) (refusing BufferTooShort out) .outcome ≡ Count m
+      → Demand input (cond b (finished (answer-of (decode input)) out) (refusing BufferTooShort out) .buffer) m
+  roomy-demand true m e = answer-demand (decode input) refl m e
+  roomy-demand false m e = let z : _≡_ {A = ℕ} 0 1 = cc in absurd (omega arith)
+
+  -- every count that the call returns is of a finished case
+  pub demanded : Demanded input (call input out .outcome) (call input out .buffer)
+  unfolding call
+  demanded m e = roomy-demand (leb shortest (length out)) m e
+
+-- so a call that answers and leaves what the definition says keeps its promise
+pub promised : (input entry : List ℕ) (o : Outcome) (exit : List ℕ) → leaves o exit ≡ call input entry → Promise input entry o exit
+promised input entry o exit e =
+    record {
+      called = e;
+      demand = λ m q.
+          subst (λ b. Demand input b m) (ap (λ w. w .buffer) (sym e)) (demanded input entry m (ap (λ w. w .outcome) (sym e) ∙ q));
+    }
+
+-- ---- what a record asks of an answer: rows and rounds of a byte each
+
+unmet-le : (s : System) (t : Trial) → first-unmet s t ≤ s .n
+unfolding first-unmet
+unmet-le s t = go (first-unmet s t) refl
+  where
+    go : (m : ℕ) → first-unmet s t ≡ m → m ≤ s .n
+    go zero e = omega arith
+    go (suc m) e = first-not-suc _ (s .n) m e .place
+
+decides-le : (s : System) (t : Trial) → 0 < s .n → suc (deciding s t) ≤ s .n
+unfolding deciding
+decides-le s t h = first-greatest-below _ (s .n) (s .n) (omega arith) h
+
+module _ (c : Case) (g : Good c) where
+  rounds-le : (k : ℕ) → k ≤ 8 → worked-in k (stored c) .status ≡ Answered → worked-in k (stored c) .rounds ≤ 8
+  unfolding stored
+  rounds-le zero h e = omega arith
+  rounds-le (suc k) h e = omega (arith, rounds (systemOf (stored c)) (scaleOf (c .exponent)) (suc k) (omega arith) e .few)
+
+  pub recordable : (room : ℕ) → shortest ≤ room → worked (stored c) .status ≡ Answered
+      → Holds (c .n) (worked (stored c) .rounds) (worked (stored c) .judgement) room
+  unfolding worked stored judgement
+  recordable room h e =
+      let r = rounds-le (c .rounds) (g .rounds-small) e in
+      let j = worked-answer c g .judgement-is in
+      let u = ap (λ k. k .unmet) j in
+      let d = ap (λ k. k .decides) j in
+      let t = trial (c .n) (scaleOf (c .exponent)) (worked (stored c) .trial) in
+      let ul = unmet-le (systemOf (stored c)) t in
+      let dl = decides-le (systemOf (stored c)) t (omega (arith, g .least)) in
+      let small = g .small in
+      record {
+        rows = g .small;
+        rounds-byte = omega arith;
+        unmet-byte = omega (arith, u, ul);
+        decides-byte = omega (arith, d, dl);
+        enough = omega arith;
+      }
+
+  pub workable : Workable (stored c)
+  unfolding stored
+  workable = record { rows = g .small; exponent-small = g .exponent-small; limits = limits c g }
+
+-- an answer that was accepted fits a record
+pub answer-recordable : (input : List ℕ) (x : FileAnswer) (room : ℕ) → x ≡ answer-of (decode input) → x .status ≡ Accepted → shortest ≤ room
+    → Holds (x .n) (x .rounds) (x .judgement) room
+unfolding answer-of stored
+answer-recordable input x room q t h =
+    let k = answering (decode input) (ap (λ y. y .status) (sym q) ∙ t) in
+    rw (q, k .decoded) (recordable (k .figures) (good (k .figures) (decode-fine input (k .figures) (k .decoded))) room h (k .answered))

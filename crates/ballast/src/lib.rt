@@ -1,0 +1,163 @@
+// The call that takes a case and a result buffer and leaves the record.
+ghost use mathlib.Core.Path.{_≡_};
+ghost use Prim.Native.Nat.{_≤_};
+ghost use Rattle.casefile.specs.Decode.{decode};
+ghost use Rattle.ballast.specs.Call.{scaleOf, worked, status-of, answer-with, no-answer, answer-of, Workable};
+ghost use Rattle.ballast.specs.Demand.{Promise};
+use casefile::Case;
+use judge::Judgement;
+use outcome::Outcome;
+use outcome::Refusal;
+use outcome::Status;
+use solver::Solution;
+
+// What a file's case comes to: whether it is refused, and the answer with the rounds used and its judgement.
+pub struct Answer {
+    pub status: Status,
+    pub n: usize,
+    pub exponent: usize,
+    pub rounds: usize,
+    pub trial: [i32; 8],
+    pub judgement: Judgement,
+}
+
+// D, 10 to the power of the exponent.
+fn scale(exponent: usize) -> u16
+    requires { ⌜ exponent ≤ 3 ⌝ }
+    ensures { λ r. ⌜ r ≡ scaleOf exponent ⌝ }
+{
+    if exponent == 0 {
+        return 1;
+    }
+    if exponent == 1 {
+        return 10;
+    }
+    if exponent == 2 {
+        return 100;
+    }
+    1000
+}
+
+// The answer of a case with its judgement: the trial that it brings, or the one kept from the steps. It writes no record.
+fn work(case: Case) -> Solution
+    requires { ⌜ Workable case ⌝ }
+    ensures { λ r. ⌜ r ≡ worked case ⌝ }
+{
+    let n = case.n;
+    let d = scale(case.exponent);
+    let coefficients = case.coefficients;
+    let tolerances = case.tolerances;
+    let right_sides = case.right_sides;
+    let right_tolerances = case.right_tolerances;
+    let trial = case.trial;
+    if case.rounds == 0 {
+        let judgement = judge::judge(
+            n,
+            d,
+            &coefficients,
+            &tolerances,
+            &right_sides,
+            &right_tolerances,
+            &trial,
+        );
+        Solution {
+            status: solver::Status::Answered,
+            rounds: 0,
+            trial,
+            judgement,
+        }
+    } else {
+        solver::solve(
+            n,
+            d,
+            &coefficients,
+            &tolerances,
+            &right_sides,
+            &right_tolerances,
+            case.rounds,
+        )
+    }
+}
+
+fn refused(refusal: Refusal) -> Answer
+    ensures { λ r. ⌜ r ≡ no-answer refusal ⌝ }
+{
+    let trial = [0i32; 8];
+    let residuals = [0i64; 8];
+    let reaches = [0u64; 8];
+    let judgement = Judgement {
+        met: false,
+        unmet: 0,
+        none: false,
+        decides: 0,
+        residuals,
+        reaches,
+    };
+    Answer {
+        status: Status::Refused(refusal),
+        n: 0,
+        exponent: 0,
+        rounds: 0,
+        trial,
+        judgement,
+    }
+}
+
+// Refusals 8 and 9, as the steps reach them.
+fn file_status(found: solver::Status) -> Status
+    ensures { λ r. ⌜ r ≡ status-of found ⌝ }
+{
+    match found {
+        solver::Status::Answered => Status::Accepted,
+        solver::Status::ZeroPivot => Status::Refused(Refusal::ZeroPivot),
+        solver::Status::OutsideRange => Status::Refused(Refusal::OutsideRange),
+    }
+}
+
+fn answered(n: usize, exponent: usize, solution: Solution) -> Answer
+    ensures { λ r. ⌜ r ≡ answer-with n exponent solution ⌝ }
+{
+    let found = solution.status;
+    let status = file_status(found);
+    let trial = solution.trial;
+    let judgement = solution.judgement;
+    Answer {
+        status,
+        n,
+        exponent,
+        rounds: solution.rounds,
+        trial,
+        judgement,
+    }
+}
+
+// The answer of any bytes as a case, judged: the first refusal of 2 to 9, or the answer with its judgement. It writes no record.
+pub fn answer_case(input: &[u8]) -> Answer
+    ensures { λ r. ⌜ r ≡ answer-of (decode (now (input .entry))) ⌝ }
+{
+    let reading = case_reader::read_case(input);
+    let status = reading.status;
+    if let Status::Refused(refusal) = status {
+        return refused(refusal);
+    }
+    let case = reading.case;
+    answered(case.n, case.exponent, work(case))
+}
+
+// Judges a case: any bytes as input, and a result buffer of any length. It returns the record's length, with the record at the buffer's front and
+// the bytes beyond it as they were; or the first refusal in document 01's order, with the buffer unchanged.
+pub fn judge_case(input: &[u8], out: &mut [u8]) -> Outcome
+    ensures { λ r. ⌜ Promise (now (input .entry)) (now (out .entry)) r (now (out .exit)) ⌝ }
+{
+    if out.len() < recordfile::LONGEST_RECORD {
+        return Outcome::Refused(Refusal::BufferTooShort);
+    }
+    let a = answer_case(input);
+    let status = a.status;
+    if let Status::Refused(refusal) = status {
+        return Outcome::Refused(refusal);
+    }
+    let trial = a.trial;
+    let judgement = a.judgement;
+    Outcome::Count(recordfile::write_record(out, a.n, a.rounds, &trial, judgement))
+}

@@ -1,0 +1,112 @@
+-- The laws of numbers of w bytes, once for every w: decode of encode, encode of decode, and a number in two parts. Assumes nothing.
+use mathlib.Core.Path.{_≡_, refl, sym, ap, ap₂, _∙_, subst}
+use Prim.Native.Nat.{ℕ, zero, suc, _+_, _*_, _/_, _%_, _^_, _≤_, _<_}
+use mathlib.Core.List.{List, [], _∷_, _++_}
+use lib.ListN.{length, take, drop, getD, length-append, length-take, length-drop}
+use lib.Arith.{digits-lt, digits-div, digits-mod, lt-one}
+use lib.Seq.{drop-cons, drop-drop, take-add}
+use native.Mathlib.Nat.{div-lt-iff-lt-mul, mod-lt, div-add-mod', zero-add, pow-suc, mul-comm, one-le-pow, zero-mul, mul-assoc, add-mul, add-assoc}
+use native.Mathlib.Omega.{arith}
+use lib.Dec.{lit<, lit≤}
+use lib.Pow.{pow-add}
+use Rattle.bigendian.specs.Number.{be, bytes}
+
+-- every element is a byte
+pub data Bytes : List ℕ → Type 0 where
+  none : Bytes []
+  one : {x : ℕ} {s : List ℕ} → x < 256 → Bytes s → Bytes (x ∷ s)
+
+pub length-bytes : (w n : ℕ) → length (bytes w n) ≡ w
+unfolding bytes
+length-bytes zero n = refl
+length-bytes (suc w) n = ap suc (length-bytes w (n % 256 ^ w))
+
+pos256 : (w : ℕ) → 0 < 256 ^ w
+pos256 w = one-le-pow w 256 (lit≤ tt)
+
+pub be-bytes : (w n : ℕ) → n < 256 ^ w → be (bytes w n) ≡ n
+unfolding be bytes
+be-bytes zero n h = sym (lt-one h)
+be-bytes (suc w) n h =
+    ap₂ (λ (a b : ℕ). n / 256 ^ w * 256 ^ a + b) (length-bytes w (n % 256 ^ w)) (be-bytes w (n % 256 ^ w) (mod-lt n (pos256 w)))
+    ∙ div-add-mod' n (256 ^ w)
+
+pub be-lt : {s : List ℕ} → Bytes s → be s < 256 ^ length s
+unfolding be
+be-lt none = lit< tt
+be-lt (one {x = x} {s = s} h r) = subst (λ (k : ℕ). x * 256 ^ length s + be s < k) (mul-comm 256 (256 ^ length s) ∙ sym (pow-suc 256 (length s))) (digits-lt h (be-lt r))
+
+pub bytes-be : {s : List ℕ} → Bytes s → bytes (length s) (be s) ≡ s
+unfolding be bytes
+bytes-be none = refl
+bytes-be (one {x = x} {s = s} h r) =
+    ap₂ (λ (a : ℕ) (b : List ℕ). a ∷ b) (digits-div x (be-lt r)) (ap (bytes (length s)) (digits-mod x (be-lt r)) ∙ bytes-be r)
+
+-- what a slice of bytes tells of its elements
+pub bytes-from : (s : List ℕ) → ((i : ℕ) → getD s i 0 < 256) → Bytes s
+bytes-from [] h = none
+bytes-from (x ∷ s) h = one (h 0) (bytes-from s (λ i. h (suc i)))
+
+pub bytes-take : (n : ℕ) {s : List ℕ} → Bytes s → Bytes (take n s)
+bytes-take zero b = none
+bytes-take (suc n) none = none
+bytes-take (suc n) (one h b) = one h (bytes-take n b)
+
+pub bytes-drop : (n : ℕ) {s : List ℕ} → Bytes s → Bytes (drop n s)
+bytes-drop zero b = b
+bytes-drop (suc n) none = none
+bytes-drop (suc n) (one h b) = bytes-drop n b
+
+-- w bytes of the input are the bytes of their number
+pub bytes-of : (w : ℕ) (s : List ℕ) → Bytes s → w ≤ length s → bytes w (be (take w s)) ≡ take w s
+bytes-of w s b h =
+    let l : length (take w s) ≡ w = simp length-take (omega arith) in
+    subst (λ (k : ℕ). bytes k (be (take w s)) ≡ take w s) l (bytes-be (bytes-take w b))
+
+pub be-of : (w : ℕ) (s : List ℕ) → Bytes s → w ≤ length s → be (take w s) < 256 ^ w
+be-of w s b h =
+    let l : length (take w s) ≡ w = simp length-take (omega arith) in
+    subst (λ (k : ℕ). be (take w s) < 256 ^ k) l (be-lt (bytes-take w b))
+
+-- ---- a number in two parts, once for every two widths
+
+be-append : (a b : List ℕ) → be (a ++ b) ≡ be a * 256 ^ length b + be b
+unfolding be
+be-append [] b = rw (zero-mul (256 ^ length b), zero-add (be b))
+be-append (x ∷ a) b =
+    rw (be-append a b, length-append a b, pow-add 256 (length a) (length b), ← (mul-assoc x (256 ^ length a) (256 ^ length b)), add-mul (x * 256 ^ length a) (be a) (256 ^ length b), add-assoc)
+
+pub be-two : (v w : ℕ) (s : List ℕ) (at : ℕ) → at + (v + w) ≤ length s → be (take (v + w) (drop at s)) ≡ be (take v (drop at s)) * 256 ^ w + be (take w (drop (at + v) s))
+be-two v w s at h =
+    let l : length (take w (drop (at + v) s)) ≡ w = simp (length-take, length-drop) (omega arith) in
+    rw (take-add v w (drop at s), drop-drop v at s, be-append (take v (drop at s)) (take w (drop (at + v) s)), l)
+
+bytes-append : {a b : List ℕ} → Bytes a → Bytes b → Bytes (a ++ b)
+bytes-append none k = k
+bytes-append (one h r) k = one h (bytes-append r k)
+
+bytes-are : (w x : ℕ) → x < 256 ^ w → Bytes (bytes w x)
+unfolding bytes
+bytes-are zero x h = none
+bytes-are (suc w) x h =
+    let g : x < 256 * 256 ^ w = rw (pow-suc 256 w, mul-comm (256 ^ w) 256) at h in
+    one (div-lt-iff-lt-mul (pos256 w) .1 g) (bytes-are w (x % 256 ^ w) (mod-lt x (pos256 w)))
+
+pub bytes-two : (v w x : ℕ) → x < 256 ^ (v + w) → bytes (v + w) x ≡ bytes v (x / 256 ^ w) ++ bytes w (x % 256 ^ w)
+bytes-two v w x h =
+    let a : ℕ = x / 256 ^ w in
+    let b : ℕ = x % 256 ^ w in
+    let l : List ℕ = bytes v a ++ bytes w b in
+    let ha : a < 256 ^ v = div-lt-iff-lt-mul (pos256 w) .1 (rw (pow-add 256 v w) at h) in
+    let hb : b < 256 ^ w = mod-lt x (pos256 w) in
+    let n : length l ≡ v + w = length-append (bytes v a) (bytes w b) ∙ ap₂ _+_ (length-bytes v a) (length-bytes w b) in
+    let e : be l ≡ x =
+    be-append (bytes v a) (bytes w b) ∙ rw (be-bytes v a ha, be-bytes w b hb, length-bytes w b) (div-add-mod' x (256 ^ w)) in
+    let g : bytes (length l) (be l) ≡ l = bytes-be (bytes-append (bytes-are v a ha) (bytes-are w b hb)) in
+    rw (n, e) at g
+
+-- ---- a single byte
+
+pub be-one : (s : List ℕ) (at : ℕ) → at < length s → be (take 1 (drop at s)) ≡ getD s at 0
+unfolding be
+be-one s at h = rw (drop-cons s at 0 h) (omega arith)

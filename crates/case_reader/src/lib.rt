@@ -1,0 +1,131 @@
+// The reader of case files: bytes in, the case or the first refusal out.
+ghost use mathlib.Core.Path.{_≡_};
+ghost use lib.ListN.{drop};
+ghost use Rattle.casefile.specs.Decode.{headStatus, endStatus, refused as refusedBy, decode, reading};
+ghost use Rattle.case_reader.specs.Read.{TrialRoom, TrialFound};
+use casefile::Case;
+use casefile::Reading;
+use fields::HEADER_SIZE;
+use outcome::Refusal;
+use outcome::Status;
+
+// The first refusal of the head, or none.
+fn read_head(s: &[u8]) -> Status
+    ensures { λ r. ⌜ r ≡ headStatus (now (s .entry)) ⌝ }
+{
+    let field = fields::check_field(s, 0, casefile::HEAD_TAG, 3);
+    if let Status::Refused(_) = field {
+        return field;
+    }
+    let n = s[casefile::N_AT] as usize;
+    let exponent = s[casefile::EXPONENT_AT] as usize;
+    let rounds = s[casefile::ROUNDS_AT] as usize;
+    if casefile::head_fine(n, exponent, rounds) {
+        Status::Accepted
+    } else {
+        Status::Refused(Refusal::OutsideLimits)
+    }
+}
+
+// The trial's field at a place of s, where the case brings one, its figures over the front of y.
+fn read_trial(s: &[u8], at: usize, rounds: usize, n: usize, y: &mut [i32]) -> Status
+    requires { ⌜ TrialRoom n (now y) ⌝ }
+    ensures { λ r. ⌜ TrialFound rounds n (drop at (now (s .entry))) r (now (y .entry)) (now (y .exit)) ⌝ }
+{
+    if rounds != 0 {
+        return Status::Accepted;
+    }
+    let field = fields::check_field(s, at, casefile::TRIAL_TAG, 4 * n);
+    if let Status::Refused(_) = field {
+        return field;
+    }
+    if !figures::read_i32s(s, at + HEADER_SIZE, casefile::TRIAL_LIMIT, &mut y[..n]) {
+        return Status::Refused(Refusal::OutsideLimits);
+    }
+    Status::Accepted
+}
+
+// The first refusal from the end field on, or none.
+fn read_end(s: &[u8], at: usize) -> Status
+    ensures { λ r. ⌜ r ≡ endStatus (drop at (now (s .entry))) ⌝ }
+{
+    let field = fields::check_field(s, at, casefile::END_TAG, 0);
+    if let Status::Refused(_) = field {
+        return field;
+    }
+    if s.len() - at == HEADER_SIZE {
+        Status::Accepted
+    } else {
+        Status::Refused(Refusal::TrailingBytes)
+    }
+}
+
+// A refusal, beside a case of zeros.
+pub fn refused(refusal: Refusal) -> Reading
+    ensures { λ r. ⌜ r ≡ reading (refusedBy refusal) ⌝ }
+{
+    let coefficients = [0i16; 64];
+    let tolerances = [0u16; 64];
+    let right_sides = [0i32; 8];
+    let right_tolerances = [0u32; 8];
+    let trial = [0i32; 8];
+    let case = Case {
+        n: 0,
+        exponent: 0,
+        rounds: 0,
+        coefficients,
+        tolerances,
+        right_sides,
+        right_tolerances,
+        trial,
+    };
+    Reading {
+        status: Status::Refused(refusal),
+        case,
+    }
+}
+
+// Reads a case. A refusal is the first in document 01's order, beside a case of zeros. After acceptance every place past the used ones is zero.
+pub fn read_case(s: &[u8]) -> Reading
+    ensures { λ r. ⌜ r ≡ reading (decode (now (s .entry))) ⌝ }
+{
+    let head = read_head(s);
+    if let Status::Refused(q) = head {
+        return refused(q);
+    }
+    let n = s[casefile::N_AT] as usize;
+    let exponent = s[casefile::EXPONENT_AT] as usize;
+    let rounds = s[casefile::ROUNDS_AT] as usize;
+    let mut a = [0i16; 64];
+    let mut t = [0u16; 64];
+    let mut b = [0i32; 8];
+    let mut f = [0u32; 8];
+    let mut y = [0i32; 8];
+    let rows = row_reader::read_rows(s, casefile::ROWS_AT, n, &mut a, &mut t, &mut b, &mut f);
+    if let Status::Refused(q) = rows {
+        return refused(q);
+    }
+    let tail = casefile::ROWS_AT + n * (HEADER_SIZE + (4 * n + 8));
+    let brought = read_trial(s, tail, rounds, n, &mut y);
+    if let Status::Refused(q) = brought {
+        return refused(q);
+    }
+    let end = read_end(s, tail + casefile::trial_size(rounds, n));
+    if let Status::Refused(q) = end {
+        return refused(q);
+    }
+    let case = Case {
+        n,
+        exponent,
+        rounds,
+        coefficients: a,
+        tolerances: t,
+        right_sides: b,
+        right_tolerances: f,
+        trial: y,
+    };
+    Reading {
+        status: Status::Accepted,
+        case,
+    }
+}

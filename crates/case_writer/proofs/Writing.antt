@@ -1,0 +1,50 @@
+-- What a run of writes leaves in the buffer: the head, and the tail.
+-- Assumes nothing.
+use mathlib.Core.Path.{_≡_, refl, sym, ap, _∙_}
+use mathlib.Core.List.{List, [], _∷_, _++_, append-nil}
+use Prim.Native.Nat.{ℕ, zero, suc, _+_, _*_, _-_, _≤_}
+use native.Mathlib.Omega.{arith}
+use lib.ListN.{length, set, length-append}
+use lib.Seq.{drop-drop, sets-eq}
+use lib.IntN.{ℤ}
+use Rattle.bigendian.specs.Number.{bytes, onto}
+use Rattle.bigendian.specs.BufferLaws.{part, put, then}
+use Rattle.figures.specs.Figures.{i32, spread}
+use Rattle.figures.specs.FigureLaws.{length-spread}
+use Rattle.fields.specs.Field.{header, field}
+use Rattle.fields.specs.FieldLaws.{length-header, field-is-header}
+use Rattle.casefile.specs.Layout.{headTag, trialTag, endTag}
+use Rattle.casefile.specs.TailLaws.{trialBytes}
+
+-- ---- the head
+
+pub head-written : (out l : List ℕ) (n x k : ℕ) → 6 ≤ length l → l ≡ onto (header headTag 3) out
+    → set (set (set l 3 n) 4 x) 5 k ≡ onto (field headTag (n ∷ x ∷ k ∷ [])) out
+unfolding field bytes
+head-written out l n x k h e = sets-eq (n ∷ x ∷ k ∷ []) l 3 h ∙ rw (e, drop-drop 3 3 out)
+
+-- ---- the tail
+
+end-header : header endTag 0 ≡ field endTag []
+end-header = sym (append-nil (header endTag 0)) ∙ field-is-header endTag [] 0 refl
+
+pub tail-plain : (out x : List ℕ) (k : ℕ) (y : List ℤ) → (k ≡ 0 → ⊥) → x ≡ onto (header endTag 0) out → x ≡ onto (trialBytes k y ++ field endTag []) out
+tail-plain out x zero y h e = absurd (h refl)
+tail-plain out x (suc k) y h e = e ∙ ap (λ (d : List ℕ). onto d out) end-header
+
+pub tail-trial : (out : List ℕ) (m : ℕ) (y : List ℤ) (x0 y1 y2 : List ℕ) → length y ≡ m
+    → x0 ≡ onto (header trialTag (4 * m)) out
+    → y1 ≡ onto (spread i32 y) (part x0 3)
+    → y2 ≡ onto (header endTag 0) (part (put x0 3 y1) (3 + 4 * m))
+    → put (put x0 3 y1) (3 + 4 * m) y2 ≡ onto (trialBytes 0 y ++ field endTag []) out
+tail-trial out m y x0 y1 y2 ly e0 e1 e2 =
+    let lv : length (spread i32 y) ≡ 4 * m = length-spread i32 y ∙ rw ly in
+    let l0 : length (header trialTag (4 * m)) ≡ 3 = length-header trialTag (4 * m) in
+    let l1 : length (header trialTag (4 * m) ++ spread i32 y) ≡ 3 + 4 * m = length-append (header trialTag (4 * m)) (spread i32 y) ∙ omega arith in
+    let p1 = then out x0 (header trialTag (4 * m)) (spread i32 y) 3 y1 e0 l0 e1 in
+    let p2 = then out (put x0 3 y1) (header trialTag (4 * m) ++ spread i32 y) (header endTag 0) (3 + 4 * m) y2 p1 l1 e2 in
+    let c : (header trialTag (4 * m) ++ spread i32 y) ++ header endTag 0 ≡ trialBytes 0 y ++ field endTag [] =
+    ap (λ (d : List ℕ). d ++ header endTag 0) (field-is-header trialTag (spread i32 y) (4 * m) lv)
+    ∙ ap (λ (d : List ℕ). field trialTag (spread i32 y) ++ d) end-header
+    ∙ ap (λ (d : List ℕ). d ++ field endTag []) (sym (append-nil (field trialTag (spread i32 y)))) in
+    p2 ∙ ap (λ (d : List ℕ). onto d out) c

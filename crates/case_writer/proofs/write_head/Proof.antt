@@ -1,0 +1,51 @@
+-- `case_writer::write_head` meets its contract: the header, then three bytes behind it.
+-- Assumes nothing.
+use native.Mathlib.Omega.{arith}
+use lib.ListN.{length-set}
+use denote.Ref.{now}
+use Rattle.case_writer.proofs.Writing.{head-written}
+use borrow.Author.Needs.{needs}
+use Rattle.case_writer.proofs.write_head.Statement.{statement}
+use Rattle.case_writer.proofs.write_head.Tie as tie
+
+write-header-requires : tie.Need-write-header-requires
+write-header-requires c κs = search needs
+
+cast-out : tie.Need-cast-out
+cast-out c = search needs
+
+slice-write-out : tie.Need-slice-write-out
+slice-write-out c = search needs
+
+cast-out-2 : tie.Need-cast-out-2
+cast-out-2 c = search needs
+
+slice-write-out-2 : tie.Need-slice-write-out-2
+slice-write-out-2 c = simp length-set (omega (arith, c .before .before .before .before .before .pre, c .before .before .write-header .kept))
+
+cast-out-3 : tie.Need-cast-out-3
+cast-out-3 c = search needs
+
+slice-write-out-3 : tie.Need-slice-write-out-3
+slice-write-out-3 c = search needs
+
+same-length : tie.Need-same-length
+same-length c = search needs
+
+returns : tie.Need-returns
+returns c = let a = c .before .before .before .before .before .args in
+    head-written (now (a .out)) (c .before .before .write-header .last .0) (a .n) (a .exponent) (a .rounds) (omega (arith, c .before .before .before .before .before .pre, c .before .before .write-header .kept)) (c .before .before .write-header .ensures)
+
+pub write-head-spec : {M : Type 1} → statement M
+write-head-spec =
+    tie.close
+    (tie.spec
+    write-header-requires
+    cast-out
+    slice-write-out
+    cast-out-2
+    slice-write-out-2
+    cast-out-3
+    slice-write-out-3
+    same-length
+    returns)

@@ -1,0 +1,183 @@
+// The writer of case files.
+ghost use mathlib.Core.Path.{_≡_};
+ghost use mathlib.Core.List.{_++_, _∷_, []};
+ghost use Prim.Native.Nat.{_≤_};
+ghost use lib.ListN.{length};
+ghost use Rattle.outcome.specs.declared.Status.the-variants.{Accepted};
+ghost use Rattle.bigendian.specs.Number.{onto};
+ghost use Rattle.fields.specs.Field.{field};
+ghost use Rattle.casefile.specs.Case.{mostTanks, counted, figuresFine, caseStatus};
+ghost use Rattle.casefile.specs.Layout.{headTag, endTag, longestCase, encode};
+ghost use Rattle.casefile.specs.TailLaws.{trialBytes};
+ghost use Rattle.casefile.specs.Write.{given, write, leaves};
+ghost use Rattle.case_writer.specs.Room.{HeadRoom, TailRoom};
+use fields::HEADER_SIZE;
+use outcome::Outcome;
+use outcome::Refusal;
+use outcome::Status;
+
+// Whether each list has the count due.
+fn counts_fine(
+    n: usize,
+    rounds: usize,
+    a: &[i16],
+    t: &[u16],
+    b: &[i32],
+    f: &[u32],
+    y: &[i32],
+) -> bool
+    requires { ⌜ n ≤ mostTanks ⌝ }
+    ensures { λ r. ⌜ r ≡ counted (given n 0 rounds (now (a .entry)) (now (t .entry)) (now (b .entry)) (now (f .entry)) (now (y .entry))) ⌝ }
+{
+    if a.len() != n * n {
+        return false;
+    }
+    if t.len() != n * n {
+        return false;
+    }
+    if b.len() != n {
+        return false;
+    }
+    if f.len() != n {
+        return false;
+    }
+    y.len() == casefile::trial_count(rounds, n)
+}
+
+// Whether each figure of the lists is within its limits.
+fn figures_fine(a: &[i16], t: &[u16], b: &[i32], f: &[u32], y: &[i32]) -> bool
+    ensures { λ r. ⌜ r ≡ figuresFine (given 0 0 0 (now (a .entry)) (now (t .entry)) (now (b .entry)) (now (f .entry)) (now (y .entry))) ⌝ }
+{
+    if !figures::all_i16(a, casefile::COEFFICIENT_LIMIT) {
+        return false;
+    }
+    if !figures::all_u16(t, casefile::TOLERANCE_LIMIT) {
+        return false;
+    }
+    if !figures::all_i32(b, casefile::RIGHT_SIDE_LIMIT) {
+        return false;
+    }
+    if !figures::all_u32(f, casefile::RIGHT_TOLERANCE_LIMIT) {
+        return false;
+    }
+    figures::all_i32(y, casefile::TRIAL_LIMIT)
+}
+
+// The first refusal of a case that is to be written, or none.
+fn check_case(
+    n: usize,
+    exponent: usize,
+    rounds: usize,
+    a: &[i16],
+    t: &[u16],
+    b: &[i32],
+    f: &[u32],
+    y: &[i32],
+) -> Status
+    ensures { λ r. ⌜ r ≡ caseStatus (given n exponent rounds (now (a .entry)) (now (t .entry)) (now (b .entry)) (now (f .entry)) (now (y .entry))) ⌝ }
+{
+    if !casefile::head_fine(n, exponent, rounds) {
+        return Status::Refused(Refusal::OutsideLimits);
+    }
+    if !counts_fine(n, rounds, a, t, b, f, y) {
+        return Status::Refused(Refusal::WrongLength);
+    }
+    if !figures_fine(a, t, b, f, y) {
+        return Status::Refused(Refusal::OutsideLimits);
+    }
+    Status::Accepted
+}
+
+// The head's field, over the front of out.
+fn write_head(out: &mut [u8], n: usize, exponent: usize, rounds: usize)
+    requires { ⌜ HeadRoom (now out) n exponent rounds ⌝ }
+    ensures { λ _. ⌜ now (out .exit) ≡ onto (field headTag (n ∷ exponent ∷ rounds ∷ [])) (now (out .entry)) ⌝ }
+{
+    fields::write_header(out, casefile::HEAD_TAG, 3);
+    out[casefile::N_AT] = n as u8;
+    out[casefile::EXPONENT_AT] = exponent as u8;
+    out[casefile::ROUNDS_AT] = rounds as u8;
+}
+
+// The trial's field, where the case brings a trial, and the end field, over the front of out.
+fn write_tail(out: &mut [u8], rounds: usize, n: usize, y: &[i32])
+    requires { ⌜ TailRoom (now out) rounds n (now y) ⌝ }
+    ensures { λ _. ⌜ now (out .exit) ≡ onto (trialBytes rounds (now (y .entry)) ++ field endTag []) (now (out .entry)) ⌝ }
+{
+    if rounds == 0 {
+        fields::write_header(out, casefile::TRIAL_TAG, (4 * n) as u16);
+        figures::write_i32s(&mut out[HEADER_SIZE..], y);
+        let end = HEADER_SIZE + 4 * n;
+        fields::write_header(&mut out[end..], casefile::END_TAG, 0);
+    } else {
+        fields::write_header(out, casefile::END_TAG, 0);
+    }
+}
+
+// The fields of a case that nothing refuses, over the front of out, and their length.
+fn write_fields(
+    out: &mut [u8],
+    n: usize,
+    exponent: usize,
+    rounds: usize,
+    a: &[i16],
+    t: &[u16],
+    b: &[i32],
+    f: &[u32],
+    y: &[i32],
+) -> usize
+    requires { ⌜ longestCase ≤ length (now out) ⌝ }
+    requires { ⌜ caseStatus (given n exponent rounds (now a) (now t) (now b) (now f) (now y)) ≡ Accepted ⌝ }
+    ensures { λ r. ⌜ r ≡ length (encode (given n exponent rounds (now (a .entry)) (now (t .entry)) (now (b .entry)) (now (f .entry)) (now (y .entry)))) ⌝ }
+    ensures { λ r. ⌜ now (out .exit) ≡ onto (encode (given n exponent rounds (now (a .entry)) (now (t .entry)) (now (b .entry)) (now (f .entry)) (now (y .entry)))) (now (out .entry)) ⌝ }
+{
+    write_head(out, n, exponent, rounds);
+    row_writer::write_rows(&mut out[casefile::ROWS_AT..], n, a, t, b, f);
+    let tail = casefile::ROWS_AT + n * (HEADER_SIZE + (4 * n + 8));
+    write_tail(&mut out[tail..], rounds, n, y);
+    tail + casefile::trial_size(rounds, n) + HEADER_SIZE
+}
+
+// Writes a case over the front of out and returns its length; bytes beyond it stay. It refuses, and changes no byte, with 1 a buffer shorter than
+// the longest case, then with 6 an n, e or K outside its limits, then with 4 a list whose count is not the one due, then with 6 any other figure outside its limits.
+pub fn write_case(
+    n: usize,
+    exponent: usize,
+    rounds: usize,
+    coefficients: &[i16],
+    tolerances: &[u16],
+    right_sides: &[i32],
+    right_tolerances: &[u32],
+    trial: &[i32],
+    out: &mut [u8],
+) -> Outcome
+    ensures { λ r. ⌜ leaves r (now (out .exit)) ≡ write (given n exponent rounds (now (coefficients .entry)) (now (tolerances .entry)) (now («right_sides» .entry)) (now («right_tolerances» .entry)) (now (trial .entry))) (now (out .entry)) ⌝ }
+{
+    if out.len() < casefile::LONGEST_CASE {
+        return Outcome::Refused(Refusal::BufferTooShort);
+    }
+    let status = check_case(
+        n,
+        exponent,
+        rounds,
+        coefficients,
+        tolerances,
+        right_sides,
+        right_tolerances,
+        trial,
+    );
+    if let Status::Refused(q) = status {
+        return Outcome::Refused(q);
+    }
+    Outcome::Count(write_fields(
+        out,
+        n,
+        exponent,
+        rounds,
+        coefficients,
+        tolerances,
+        right_sides,
+        right_tolerances,
+        trial,
+    ))
+}

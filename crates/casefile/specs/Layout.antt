@@ -1,0 +1,95 @@
+-- The bytes of a case: document 01, "Layout of case and record".
+use Prim.Native.Nat.{ℕ, zero, suc, _+_, _*_}
+use mathlib.Core.List.{List, [], _∷_, _++_, map}
+use lib.ListN.{take, drop}
+use lib.IntN.{ℤ}
+use Rattle.figures.specs.Figures.{i16, u16, i32, u32, spread}
+use Rattle.fields.specs.Field.{headerSize, field}
+use Rattle.casefile.specs.Case.{Case}
+
+-- the lists that the parts of a list of things are, one after another
+abbrev pub joined : {A X : Type 0} → (A → List X) → List A → List X
+joined f [] = []
+joined f (a ∷ rest) = f a ++ joined f rest
+
+-- ---- fields and their lengths
+
+-- "01, length 3: n, e, K, one byte each"
+abbrev pub headTag : ℕ
+headTag = 1
+
+abbrev pub headLength : ℕ
+headLength = 3
+
+-- "02, length 4n + 8, one for each row"
+abbrev pub rowTag : ℕ
+rowTag = 2
+
+abbrev pub rowLength : ℕ → ℕ
+rowLength n = 4 * n + 8
+
+-- "03, length 4n, present exactly if K is 0"
+abbrev pub trialTag : ℕ
+trialTag = 3
+
+abbrev pub trialLength : ℕ → ℕ
+trialLength n = 4 * n
+
+abbrev pub trialSize : ℕ → ℕ → ℕ
+trialSize zero n = headerSize + trialLength n
+trialSize (suc k) n = 0
+
+-- "FF, length 0"
+abbrev pub endTag : ℕ
+endTag = 255
+
+abbrev pub endLength : ℕ
+endLength = 0
+
+-- "The longest case has 388 bytes."
+abbrev pub longestCase : ℕ
+longestCase = 388
+
+-- ---- rows
+
+-- a row's figures: n, n, one and one
+pub record Row : Type 0 where
+  pub coefficients : List ℤ
+  pub tolerances : List ℕ
+  pub right-side : List ℤ
+  pub right-tolerance : List ℕ
+
+-- "n coefficients of 2 bytes, n tolerances of 2 bytes (unsigned), b (4 bytes), f (4 bytes, unsigned)"
+unfoldable pub rowBytes : Row → List ℕ
+rowBytes r =
+    spread i16 (r .coefficients)
+    ++ (spread u16 (r .tolerances) ++ (spread i32 (r .right-side) ++ spread u32 (r .right-tolerance)))
+
+abbrev pub rowField : Row → List ℕ
+rowField r = field rowTag (rowBytes r)
+
+-- the first m rows of figures that stand row after row
+unfoldable pub split : ℕ → ℕ → List ℤ → List ℕ → List ℤ → List ℕ → List Row
+split n zero a t b f = []
+split n (suc m) a t b f =
+    record { coefficients = take n a; tolerances = take n t; right-side = take 1 b; right-tolerance = take 1 f }
+    ∷ split n m (drop n a) (drop n t) (drop 1 b) (drop 1 f)
+
+abbrev pub rowsIn : Case → List Row
+rowsIn c = split (c .n) (c .n) (c .coefficients) (c .tolerances) (c .right-sides) (c .right-tolerances)
+
+-- ---- the whole
+
+-- the trial's field, where K is 0
+abbrev pub trialFields : ℕ → List ℤ → List (List ℕ)
+trialFields zero y = field trialTag (spread i32 y) ∷ []
+trialFields (suc k) y = []
+
+-- "A case is, in this order"
+abbrev pub fieldsOf : Case → List (List ℕ)
+fieldsOf c =
+    field headTag (c .n ∷ c .exponent ∷ c .rounds ∷ [])
+    ∷ (map rowField (rowsIn c) ++ (trialFields (c .rounds) (c .trial) ++ (field endTag [] ∷ [])))
+
+unfoldable pub encode : Case → List ℕ
+encode c = joined (λ f. f) (fieldsOf c)

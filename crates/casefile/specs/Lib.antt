@@ -1,0 +1,12 @@
+pub mod Case
+pub mod Layout
+pub mod Decode
+pub mod Write
+pub mod KindLaws
+pub mod RowLaws
+pub mod RowsLaws
+pub mod TailLaws
+pub mod CaseLaws
+pub mod WriteLaws
+pub mod StoredLaws
+pub mod Examples

@@ -1,0 +1,97 @@
+// A case as the program holds it, and the limits of its figures. What a case is in bytes, and the laws of that, stand in specs/.
+ghost use mathlib.Core.Path.{_≡_};
+ghost use Prim.Native.Nat.{_≤_};
+ghost use Rattle.casefile.specs.Case.{mostTanks, headFine, trialCount};
+ghost use Rattle.casefile.specs.Layout.{trialSize};
+use outcome::Status;
+
+// Document 01, "Figures".
+pub const MOST_TANKS: usize = 8;
+
+pub const MOST_EXPONENT: usize = 3;
+
+pub const MOST_ROUNDS: usize = 8;
+
+pub const COEFFICIENT_LIMIT: u64 = 32767;
+
+pub const TOLERANCE_LIMIT: u64 = 32767;
+
+pub const RIGHT_SIDE_LIMIT: u64 = 1000000000;
+
+pub const RIGHT_TOLERANCE_LIMIT: u64 = 1000000000;
+
+pub const TRIAL_LIMIT: u64 = 10000000;
+
+// Document 01, "Layout of case and record".
+pub const HEAD_TAG: u8 = 1;
+
+pub const ROW_TAG: u8 = 2;
+
+pub const TRIAL_TAG: u8 = 3;
+
+pub const END_TAG: u8 = 255;
+
+pub const LONGEST_CASE: usize = 388;
+
+// Where n, the exponent, the rounds and the first row stand.
+pub const N_AT: usize = 3;
+
+pub const EXPONENT_AT: usize = 4;
+
+pub const ROUNDS_AT: usize = 5;
+
+pub const ROWS_AT: usize = 6;
+
+// The figures of a case: n, the exponent e, the rounds K; coefficients and tolerances row after row, row i from i * n on;
+// the right sides, their tolerances and the trial. Places past the used ones are zero.
+pub struct Case {
+    pub n: usize,
+    pub exponent: usize,
+    pub rounds: usize,
+    pub coefficients: [i16; 64],
+    pub tolerances: [u16; 64],
+    pub right_sides: [i32; 8],
+    pub right_tolerances: [u32; 8],
+    pub trial: [i32; 8],
+}
+
+// What reading a file gives: the case, or the first refusal beside a case of zeros.
+pub struct Reading {
+    pub status: Status,
+    pub case: Case,
+}
+
+// Whether n, the exponent and the rounds are within their limits.
+pub fn head_fine(n: usize, exponent: usize, rounds: usize) -> bool
+    ensures { λ r. ⌜ r ≡ headFine n exponent rounds ⌝ }
+{
+    if n < 1 {
+        return false;
+    }
+    if MOST_TANKS < n {
+        return false;
+    }
+    if MOST_EXPONENT < exponent {
+        return false;
+    }
+    rounds <= MOST_ROUNDS
+}
+
+// How many figures the trial has: none where K is above 0.
+pub fn trial_count(rounds: usize, n: usize) -> usize
+    ensures { λ r. ⌜ r ≡ trialCount rounds n ⌝ }
+{
+    if rounds == 0 { n } else { 0 }
+}
+
+// The bytes of the trial's field, header and value: none where K is above 0.
+pub fn trial_size(rounds: usize, n: usize) -> usize
+    requires { ⌜ n ≤ mostTanks ⌝ }
+    ensures { λ r. ⌜ r ≡ trialSize rounds n ⌝ }
+{
+    if rounds == 0 {
+        fields::HEADER_SIZE + 4 * n
+    } else {
+        0
+    }
+}

@@ -1,0 +1,33 @@
+-- `decimal::write_unsigned` meets its contract: the digits of x are its last digits, as many as x has.
+-- Assumes nothing.
+use mathlib.Core.Path.{_≡_, sym, ap, _∙_}
+use Prim.Native.Nat.{ℕ}
+use lib.ListN.{length}
+use borrow.Author.Needs.{needs}
+use Rattle.decimal.specs.Decimal.{digits, last-digits}
+use Rattle.decimal.specs.DigitLaws.{digits-last}
+use Rattle.decimal.proofs.write_unsigned.Statement.{statement}
+use Rattle.decimal.proofs.write_unsigned.Tie as tie
+
+as-last : (x k : ℕ) → k ≡ length (digits x) → digits x ≡ last-digits k x
+as-last x k e = digits-last x ∙ ap (λ (m : ℕ). last-digits m x) (sym e)
+
+digit-count-requires : tie.Need-digit-count-requires
+digit-count-requires c κs = search needs
+
+write-last-digits-requires : tie.Need-write-last-digits-requires
+write-last-digits-requires c κs =
+    let s = c .before .before .before in
+    rw (as-last (s .args .x) (c .before .digit-count .result) (c .before .digit-count .ensures)) at (s .pre)
+
+same-length : tie.Need-same-length
+same-length c = search needs
+
+returns : tie.Need-returns
+returns c =
+    let d = c .before .before .before .before in
+    rw (as-last (d .before .before .args .x) (d .digit-count .result) (d .digit-count .ensures)) (c .before .before .write-last-digits .ensures)
+
+pub write-unsigned-spec : {M : Type 1} → statement M
+write-unsigned-spec =
+    tie.close (tie.spec digit-count-requires write-last-digits-requires same-length returns)

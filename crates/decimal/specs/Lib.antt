@@ -1,0 +1,7 @@
+pub mod Buffer
+pub mod BufferLaws
+pub mod Decimal
+pub mod DigitLaws
+pub mod Reading
+pub mod ReadingLaws
+mod Examples

@@ -1,0 +1,113 @@
+// Words and decimal numbers as bytes in a buffer. Each writer writes from the place `at` on, changes nothing else, and returns the place
+// after what it wrote.
+use integers::magnitude;
+ghost use mathlib.Core.Path.{_≡_};
+ghost use Prim.Native.Nat.{_^_, _<_};
+ghost use lib.ListN.{length};
+ghost use Rattle.decimal.specs.Buffer.{Room, Wrote};
+ghost use Rattle.decimal.specs.Decimal.{digits, «last-digits», minus, signed, fraction, «fixed-point»};
+
+const POWERS_OF_TEN: [u64; 4] = [1, 10, 100, 1000];
+
+// Copies the bytes of a word.
+pub fn write_bytes(word: &[u8], at: usize, out: &mut [u8]) -> usize
+    requires { ⌜ Room (now word) at (now out) ⌝ }
+    ensures { λ r. ⌜ Wrote (now (word .entry)) at (now (out .entry)) r (now (out .exit)) ⌝ }
+{
+    let mut i = 0;
+    let mut p = at;
+    while i < word.len() {
+        out[p] = word[i];
+        i += 1;
+        p += 1;
+    }
+    p
+}
+
+// How many digits x has.
+fn digit_count(x: u64) -> usize
+    ensures { λ r. ⌜ r ≡ length (digits x) ⌝ }
+{
+    let mut rest = x;
+    let mut count = 1;
+    while 10 <= rest {
+        rest /= 10;
+        count += 1;
+    }
+    count
+}
+
+// The last digits of x, as many as `count` says, with leading zeros; written from the last one back.
+fn write_last_digits(x: u64, count: usize, at: usize, out: &mut [u8]) -> usize
+    requires { ⌜ Room (last-digits count x) at (now out) ⌝ }
+    ensures { λ r. ⌜ Wrote (last-digits count x) at (now (out .entry)) r (now (out .exit)) ⌝ }
+{
+    let mut rest = x;
+    let mut left = count;
+    while 0 < left {
+        left -= 1;
+        out[at + left] = 48 + (rest % 10) as u8;
+        rest /= 10;
+    }
+    at + count
+}
+
+// A whole number without leading zeros.
+pub fn write_unsigned(x: u64, at: usize, out: &mut [u8]) -> usize
+    requires { ⌜ Room (digits x) at (now out) ⌝ }
+    ensures { λ r. ⌜ Wrote (digits x) at (now (out .entry)) r (now (out .exit)) ⌝ }
+{
+    write_last_digits(x, digit_count(x), at, out)
+}
+
+// A minus, where x is below zero.
+fn write_minus(x: i64, at: usize, out: &mut [u8]) -> usize
+    requires { ⌜ Room (minus x) at (now out) ⌝ }
+    ensures { λ r. ⌜ Wrote (minus x) at (now (out .entry)) r (now (out .exit)) ⌝ }
+{
+    if x < 0 {
+        out[at] = b'-';
+        return at + 1;
+    }
+    at
+}
+
+// A whole number of either sign.
+pub fn write_signed(x: i64, at: usize, out: &mut [u8]) -> usize
+    requires { ⌜ Room (signed x) at (now out) ⌝ }
+    ensures { λ r. ⌜ Wrote (signed x) at (now (out .entry)) r (now (out .exit)) ⌝ }
+{
+    let next = write_minus(x, at, out);
+    write_unsigned(magnitude(x), next, out)
+}
+
+// A point and e digits, or nothing where e is 0.
+fn write_fraction(x: u64, e: usize, at: usize, out: &mut [u8]) -> usize
+    requires { ⌜ Room (fraction e x) at (now out) ⌝ }
+    ensures { λ r. ⌜ Wrote (fraction e x) at (now (out .entry)) r (now (out .exit)) ⌝ }
+{
+    if e == 0 {
+        return at;
+    }
+    out[at] = b'.';
+    write_last_digits(x, e, at + 1, out)
+}
+
+fn power_of_ten(e: usize) -> u64
+    requires { ⌜ e < 4 ⌝ }
+    ensures { λ r. ⌜ r ≡ 10 ^ e ⌝ }
+{
+    POWERS_OF_TEN[e]
+}
+
+// x / 10^e: its sign, the whole part, and for e above 0 a point and e digits.
+pub fn write_fixed_point(x: i64, e: usize, at: usize, out: &mut [u8]) -> usize
+    requires { ⌜ (e < 4) × Room (fixed-point e x) at (now out) ⌝ }
+    ensures { λ r. ⌜ Wrote (fixed-point e x) at (now (out .entry)) r (now (out .exit)) ⌝ }
+{
+    let size = magnitude(x);
+    let unit = power_of_ten(e);
+    let after_sign = write_minus(x, at, out);
+    let after_whole = write_unsigned(size / unit, after_sign, out);
+    write_fraction(size % unit, e, after_whole, out)
+}

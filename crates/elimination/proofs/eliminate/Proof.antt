@@ -1,0 +1,273 @@
+-- `elimination::eliminate` meets its contract. The steps' invariant: the state is that after k steps. The rows' invariant: the search from
+-- here on finds the pivot. Where it ends with zero, all later steps leave the state as it is. Assumes nothing.
+use mathlib.Core.Path.{_≡_, refl, sym, ap, _∙_}
+use mathlib.Core.Logic.{⊎-elim}
+use mathlib.Core.List.{List, []}
+use Prim.Native.Nat.{ℕ, _+_, _-_, _<_, _≤_}
+use native.Mathlib.Omega.{arith}
+use borrow.Author.Needs.{needs}
+use lib.IntN.{ℤ, natAbs}
+use mir.Facts.{toZ-ofZ}
+use Rattle.elimination.specs.Matrix.{at}
+use Rattle.elimination.specs.Steps.{pivot-from, pivot-row, exchange, eliminated-below, Run, largest, advanced, after-steps, eliminated}
+use Rattle.elimination.specs.Conditions.{Pivoted}
+use Rattle.elimination.specs.Pivot.{pivot-up, pivot-stay, pivot-done}
+use Rattle.elimination.specs.Runs.{after-none, after-more, advanced-step, stays}
+use Rattle.elimination.specs.Factors.{kept, kept-pivoted}
+use Rattle.elimination.specs.Outcome.{outcome, Eliminates}
+use Rattle.elimination.specs.declared.Elimination.{Elimination}
+use Rattle.elimination.specs.OutcomeLaws.{steps-zero-pivot, steps-complete}
+use Rattle.elimination.proofs.eliminate.Statement.{statement}
+use Rattle.elimination.proofs.eliminate.Tie as tie
+
+-- the state of the code
+abbrev state : List (List ℤ) → List ℕ → ℕ → Run
+state w places k = record { rows = w; order = places; steps = k }
+
+record Made (n : ℕ) (a : List ℤ) (w : List (List ℤ)) (places : List ℕ) (k : ℕ) : Type 0 where
+  few : k ≤ n
+  is : after-steps n a k ≡ state w places k
+
+record Searched (w : List (List ℤ)) (k n pivot size i : ℕ) : Type 0 where
+  some : i ≤ n
+  inside : pivot < n
+  size-is : size ≡ natAbs (at w pivot k)
+  rest : pivot-from w k pivot i (n - i) ≡ pivot-row w k n
+
+-- one step more
+made-more : {n k p : ℕ} {a : List ℤ} {w w₁ w₂ : List (List ℤ)} {places places₁ : List ℕ}
+    → Made n a w places k → k < n → 0 < largest n (state w places k) → p ≡ pivot-row w k n
+    → w₁ ≡ exchange [] w k p → places₁ ≡ exchange 0 places k p → w₂ ≡ eliminated-below w₁ k n → Made n a w₂ places₁ (k + 1)
+made-more {n} {k} {p} {a} {w} {w₁} {w₂} {places} m h l e f g i =
+    record {
+      few = omega arith;
+      is = after-more n a k ∙ ap (advanced n) (m .is) ∙ advanced-step n (state w places k) l ∙ rw (i, f, g, e);
+    }
+
+-- what is left when the steps are over
+leaves : {n : ℕ} {a : List ℤ} {r : Run} {answer : Elimination} → eliminated n a ≡ r → answer ≡ outcome n (r .steps)
+    → Eliminates n a answer (r .rows) (r .order)
+leaves e p = record { answer-is = rw e p; rows-are = rw e; order-is = rw e }
+
+-- one candidate more, which is larger or not
+module _ {w : List (List ℤ)} {k n pivot size i next : ℕ} (s : Searched w k n pivot size i) (h : i < n) (e : next ≡ natAbs (at w i k)) where
+  searched-up : size < next → Searched w k n i next (i + 1)
+  searched-up l =
+      record {
+        some = omega arith;
+        inside = h;
+        size-is = e;
+        rest = pivot-up w k pivot i n h (omega arith) ∙ s .rest;
+      }
+
+  searched-stay : next ≤ size → Searched w k n pivot size (i + 1)
+  searched-stay l =
+      record {
+        some = omega arith;
+        inside = s .inside;
+        size-is = s .size-is;
+        rest = pivot-stay w k pivot i n h (omega arith) ∙ s .rest;
+      }
+
+abbrev Inv-rows : tie.InvT-rows
+Inv-rows n coefficients rows order w places k pivot₀ largest₀ i₀ pivot largest i = Searched w k n pivot largest i
+
+abbrev μ-rows : tie.MeasureT-rows
+μ-rows n coefficients rows order w places k pivot₀ largest₀ i₀ pivot largest i = n - i
+
+abbrev Inv-steps : tie.InvT-steps
+Inv-steps n coefficients rows order w₀ places₀ k₀ w places k = Made n coefficients w places k
+
+abbrev μ-steps : tie.MeasureT-steps
+μ-steps n coefficients rows order w₀ places₀ k₀ w places k = n - k
+
+-- once the rows are looked through, the pivot is found
+module _ {w : List (List ℤ)} {k n pivot size i : ℕ} (s : Searched w k n pivot size i) (h : n ≤ i) where
+  pivot-is : pivot ≡ pivot-row w k n
+  pivot-is = sym (pivot-done w k pivot i n h) ∙ s .rest
+
+  size-largest : (places : List ℕ) → largest n (state w places k) ≡ size
+  size-largest places = sym (s .size-is ∙ ap (λ (x : ℕ). natAbs (at w x k)) pivot-is)
+
+working-rows-requires : tie.Need-working-rows-requires Inv-rows μ-rows Inv-steps μ-steps
+working-rows-requires c κs = c .pre
+
+steps-holds : tie.Need-steps-holds Inv-rows μ-rows Inv-steps μ-steps
+steps-holds c =
+    record { few = omega arith; is = after-none (c .before .args .n) (c .before .args .coefficients .now) ∙ rw (← c .working-rows .ensures .are) }
+
+mul-magnitude : tie.Need-mul-magnitude Inv-rows μ-rows Inv-steps μ-steps
+mul-magnitude c = omega arith
+
+mul-magnitude-2 : tie.Need-mul-magnitude-2 Inv-rows μ-rows Inv-steps μ-steps
+mul-magnitude-2 c = omega arith
+
+index-1-magnitude : tie.Need-index-1-magnitude Inv-rows μ-rows Inv-steps μ-steps
+index-1-magnitude c = omega arith
+
+index-2-magnitude : tie.Need-index-2-magnitude Inv-rows μ-rows Inv-steps μ-steps
+index-2-magnitude c = omega arith
+
+magnitude-requires : tie.Need-magnitude-requires Inv-rows μ-rows Inv-steps μ-steps
+magnitude-requires c κs = search needs
+
+add-i : tie.Need-add-i Inv-rows μ-rows Inv-steps μ-steps
+add-i c = omega arith
+
+rows-holds : tie.Need-rows-holds Inv-rows μ-rows Inv-steps μ-steps
+unfolding pivot-row
+rows-holds c =
+    record {
+      some = omega arith;
+      inside = omega arith;
+      size-is = rw (toZ-ofZ (record { sfits = c .before .magnitude-arg .given })) at (c .magnitude .ensures);
+      rest = refl;
+    }
+
+mul-magnitude-3 : tie.Need-mul-magnitude-3 Inv-rows μ-rows Inv-steps μ-steps
+mul-magnitude-3 c = omega arith
+
+mul-magnitude-4 : tie.Need-mul-magnitude-4 Inv-rows μ-rows Inv-steps μ-steps
+mul-magnitude-4 c = omega arith
+
+index-1-magnitude-2 : tie.Need-index-1-magnitude-2 Inv-rows μ-rows Inv-steps μ-steps
+index-1-magnitude-2 c = omega arith
+
+index-2-magnitude-2 : tie.Need-index-2-magnitude-2 Inv-rows μ-rows Inv-steps μ-steps
+index-2-magnitude-2 c = omega arith
+
+magnitude-requires-2 : tie.Need-magnitude-requires-2 Inv-rows μ-rows Inv-steps μ-steps
+magnitude-requires-2 c κs = search needs
+
+add-i-2 : tie.Need-add-i-2 Inv-rows μ-rows Inv-steps μ-steps
+add-i-2 c = omega arith
+
+rows-less : tie.Need-rows-less Inv-rows μ-rows Inv-steps μ-steps
+rows-less c = omega arith
+
+rows-again : tie.Need-rows-again Inv-rows μ-rows Inv-steps μ-steps
+rows-again c =
+    let r = c .before .before .before .before in
+    let e = rw (toZ-ofZ (record { sfits = c .before .before .magnitude-arg2 .given })) at (c .before .magnitude2 .ensures) in
+    ⊎-elim
+    (λ t. rw (t .1, t .2) (searched-up (r .rows .inv) (omega arith) e (t .0 .taken)))
+    (λ t. rw (t .1, t .2) (searched-stay (r .rows .inv) (omega arith) e (t .0 .left)))
+    (c .if3 .came)
+
+exchanged-rows-requires : tie.Need-exchanged-rows-requires Inv-rows μ-rows Inv-steps μ-steps
+exchanged-rows-requires c κs = omega arith
+
+exchanged-places-requires : tie.Need-exchanged-places-requires Inv-rows μ-rows Inv-steps μ-steps
+exchanged-places-requires c κs = omega arith
+
+-- where the pivot is not zero
+module _ (c : tie.Else2 Inv-rows μ-rows Inv-steps μ-steps) where
+  abbrev head : tie.At-steps Inv-rows μ-rows Inv-steps μ-steps
+  head = c .before .before .before .before .before .before
+
+  abbrev n′ : ℕ
+  n′ = head .before .before .args .n
+
+  abbrev w′ : List (List ℤ)
+  w′ = head .steps .w
+
+  abbrev places′ : List ℕ
+  places′ = head .steps .places
+
+  abbrev k′ : ℕ
+  k′ = head .steps .k
+
+  pivot-found : c .before .before .rows .pivot ≡ pivot-row w′ k′ n′
+  pivot-found = let r = c .before .before in pivot-is (r .rows .inv) (omega arith)
+
+  nonzero : 0 < largest n′ (state w′ places′ k′)
+  nonzero =
+      let r = c .before .before in
+      omega (arith, size-largest (r .rows .inv) (omega arith) places′, c .if2 .left)
+
+  ready : Pivoted (exchange [] w′ k′ (pivot-row w′ k′ n′)) k′ n′
+  ready =
+      let s = head .before .before in
+      let b = rw (head .before .working-rows .ensures .are) at (head .before .working-rows .ensures .within) in
+      kept-pivoted n′ (state w′ places′ k′) (s .pre) (omega arith)
+      (rw (head .steps .inv .is) at (kept n′ (s .args .coefficients .now) (s .pre) b k′ (omega arith)))
+      nonzero
+
+step-requires : tie.Need-step-requires Inv-rows μ-rows Inv-steps μ-steps
+step-requires c κs =
+    let e = c .before .before in
+    rw (c .before .exchanged-rows .ensures, pivot-found e) (ready e)
+
+add-k : tie.Need-add-k Inv-rows μ-rows Inv-steps μ-steps
+add-k c = omega arith
+
+steps-less : tie.Need-steps-less Inv-rows μ-rows Inv-steps μ-steps
+steps-less c = omega arith
+
+steps-again : tie.Need-steps-again Inv-rows μ-rows Inv-steps μ-steps
+steps-again c =
+    let e = c .before .before .before in
+    made-more (head e .steps .inv) (omega arith) (nonzero e) (pivot-found e)
+    (c .before .before .exchanged-rows .ensures) (c .before .exchanged-places .ensures) (c .step .ensures)
+
+-- the whole, once the steps are left
+module _ (c : tie.Left-steps Inv-rows μ-rows Inv-steps μ-steps) where
+  abbrev last : tie.At-steps Inv-rows μ-rows Inv-steps μ-steps
+  last = c .before
+
+  abbrev a′ : List ℤ
+  a′ = last .before .before .args .coefficients .now
+
+  whole : eliminated (last .before .before .args .n) a′ ≡ state (last .steps .w) (last .steps .places) (last .steps .k)
+  unfolding eliminated
+  whole =
+      let d = last in
+      let n = d .before .before .args .n in
+      ⊎-elim
+      (λ t. let e : n ≡ d .steps .k = omega (arith, t .left, d .steps .inv .few) in ap (after-steps n a′) e ∙ d .steps .inv .is)
+      (λ t. stays n a′ (d .steps .k) n (d .steps .inv .few)
+      (rw (d .steps .inv .is)
+      (size-largest {w = d .steps .w} {k = d .steps .k} {n = n} {pivot = t .3 .pivot} {size = t .3 .largest} {i = t .3 .i}
+      (t .3 .inv) (omega (arith, t .4 .taken)) (d .steps .places) ∙ t .5 .taken))
+      ∙ d .steps .inv .is)
+      (c .steps-test .came)
+
+returns : tie.Need-returns Inv-rows μ-rows Inv-steps μ-steps
+returns c = leaves (whole (c .before)) (sym (steps-zero-pivot _ _ (c .if4 .taken)))
+
+returns-2 : tie.Need-returns-2 Inv-rows μ-rows Inv-steps μ-steps
+returns-2 c = leaves (whole (c .before)) (sym (steps-complete _ _ (c .if4 .left)))
+
+pub eliminate-spec : {M : Type 1} → statement M
+eliminate-spec =
+    tie.close
+    (tie.spec
+    Inv-rows
+    μ-rows
+    Inv-steps
+    μ-steps
+    working-rows-requires
+    steps-holds
+    mul-magnitude
+    mul-magnitude-2
+    index-1-magnitude
+    index-2-magnitude
+    magnitude-requires
+    add-i
+    rows-holds
+    mul-magnitude-3
+    mul-magnitude-4
+    index-1-magnitude-2
+    index-2-magnitude-2
+    magnitude-requires-2
+    add-i-2
+    rows-less
+    rows-again
+    exchanged-rows-requires
+    exchanged-places-requires
+    step-requires
+    add-k
+    steps-less
+    steps-again
+    returns
+    returns-2)

@@ -1,0 +1,140 @@
+-- Why no number of a step wraps: a multiplier is at most 16,384, and an entry at most doubles in a step. Rests on the laws of rnd alone.
+-- Assumes nothing.
+use mathlib.Core.Path.{_≡_, ap}
+use mathlib.Core.List.{List, []}
+use Prim.Native.Nat.{ℕ, _+_, _*_, _-_, _^_, _<_, _≤_}
+use native.Mathlib.Nat.{mul-le-mul, mul-le-mul-right}
+use native.Mathlib.Omega.{arith}
+use lib.ListN.{getD, length}
+use lib.IntN.{ℤ, pos, natAbs, _*ℤ_}
+use lib.Pow.{pow-mono, pow-add, pow-pos}
+use Rattle.integers.specs.Size.{natAbs-*ℤ, natAbs-subℤ}
+use Rattle.rounding.specs.Round.{rnd}
+use Rattle.rounding.specs.Laws.{rnd-le}
+use Rattle.elimination.specs.Matrix.{at, fill, Within, AllWithin}
+use Rattle.elimination.specs.Steps.{pivot-row, exchange, multiplier, reduced, eliminated-row, row-below, eliminated-below}
+use Rattle.elimination.specs.Conditions.{bound, Ready, Pivoted}
+use Rattle.elimination.specs.Laws.{fill-done, all-set, all-fill, transposed, transposed-cases, transposed-first, exchange-at}
+use Rattle.elimination.specs.Pivot.{Best, pivot-best, nonzero-in}
+
+pub bound-mono : (i j : ℕ) → i ≤ j → bound i ≤ bound j
+bound-mono i j h = mul-le-mul-right (2 ^ 23) (pow-mono {i = i} {j = j} h)
+
+pub bound-le : (k : ℕ) → k < 8 → bound k ≤ 2 ^ 30
+bound-le k h = omega (arith, bound-mono k 7 (omega arith))
+
+pub bound-suc : (k : ℕ) → bound (k + 1) ≡ bound k + bound k
+bound-suc k = omega (arith, ap (λ (x : ℕ). x * 2 ^ 23) (pow-add 2 k 1))
+
+pub bound-low : (k : ℕ) → 16384 ≤ bound k
+bound-low k = omega (arith, pow-pos k)
+
+-- ---- a row
+
+module _ (top row : List ℤ) (k n : ℕ) (h : Ready top row k n) where
+  small : bound k ≤ 2 ^ 30
+  small = let b = h .below in let c = h .few in bound-le k (omega arith)
+
+  pub top-le : (j : ℕ) → natAbs (getD top j (pos 0)) ≤ 2 ^ 30
+  top-le j = omega (arith, h .top-in j, small)
+
+  pub row-le : (j : ℕ) → natAbs (getD row j (pos 0)) ≤ 2 ^ 30
+  row-le j = omega (arith, h .row-in j, small)
+
+  pub dividend-le : natAbs (pos 16384 *ℤ getD row k (pos 0)) ≤ 2 ^ 44
+  dividend-le = omega (arith, natAbs-*ℤ (pos 16384) (getD row k (pos 0)), row-le k)
+
+  pub multiplier-le : natAbs (multiplier top row k) ≤ 16384
+  multiplier-le =
+      rnd-le (pos 16384 *ℤ getD row k (pos 0)) (getD top k (pos 0)) 16384
+      (omega (arith, h .largest, natAbs-*ℤ (pos 16384) (getD row k (pos 0))))
+
+  product-in : (j : ℕ) → natAbs (multiplier top row k *ℤ getD top j (pos 0)) ≤ bound k * 16384
+  product-in j =
+      rw (natAbs-*ℤ (multiplier top row k) (getD top j (pos 0)))
+      (omega (arith, mul-le-mul multiplier-le (h .top-in j)))
+
+  pub product-le : (j : ℕ) → natAbs (multiplier top row k *ℤ getD top j (pos 0)) ≤ 2 ^ 44
+  product-le j = omega (arith, product-in j, small)
+
+  loss-in : (j : ℕ) → natAbs (rnd (multiplier top row k *ℤ getD top j (pos 0)) (pos 16384)) ≤ bound k
+  loss-in j = rnd-le (multiplier top row k *ℤ getD top j (pos 0)) (pos 16384) (bound k) (product-in j)
+
+  pub loss-le : (j : ℕ) → natAbs (rnd (multiplier top row k *ℤ getD top j (pos 0)) (pos 16384)) ≤ 2 ^ 30
+  loss-le j = omega (arith, loss-in j, small)
+
+  reduced-in : (j : ℕ) → natAbs (reduced (multiplier top row k) top row j) ≤ bound k + bound k
+  reduced-in j =
+      omega (arith, natAbs-subℤ (getD row j (pos 0)) (rnd (multiplier top row k *ℤ getD top j (pos 0)) (pos 16384)), h .row-in j, loss-in j)
+
+  pub reduced-le : (j : ℕ) → natAbs (reduced (multiplier top row k) top row j) ≤ 2 ^ 31
+  reduced-le j = omega (arith, reduced-in j, small)
+
+  -- an eliminated row
+  pub row-grows : Within (bound (k + 1)) (eliminated-row top row k n)
+  unfolding eliminated-row
+  row-grows =
+      let f = reduced (multiplier top row k) top row in
+      rw (bound-suc k)
+      (all-set (λ (z : ℤ). natAbs z ≤ bound k + bound k) (pos 0) (fill f (k + 1) (n - (k + 1)) row) k (multiplier top row k)
+      (omega (arith, multiplier-le, bound-low k))
+      (all-fill (λ (z : ℤ). natAbs z ≤ bound k + bound k) (pos 0) f (k + 1) (n - (k + 1)) row
+      (λ i p q. reduced-in i)
+      (λ j. omega (arith, h .row-in j))))
+
+-- ---- a step
+
+-- row i below the pivot's is ready
+pub ready : (w : List (List ℤ)) (k n i : ℕ) → Pivoted w k n → k < i → i < n → Ready (getD w k []) (getD w i []) k n
+ready w k n i h p q =
+    record {
+      below = h .below;
+      few = h .few;
+      top-in = h .all-in k;
+      row-in = h .all-in i;
+      pivot = h .pivot;
+      largest = h .largest i p q;
+    }
+
+pub step-grows : (w : List (List ℤ)) (k n : ℕ) → Pivoted w k n → AllWithin (bound (k + 1)) (eliminated-below w k n)
+unfolding eliminated-below
+step-grows w k n h =
+    all-fill (Within (bound (k + 1))) [] (row-below w k n) (k + 1) (n - (k + 1)) w
+    (λ i p q. let b = h .below in row-grows (getD w k []) (getD w i []) k n (ready w k n i h (omega arith) (omega arith)))
+    (λ i j. rw (bound-suc k) (omega (arith, h .all-in i j)))
+
+-- the last step has no row below it
+pub last-step : (w : List (List ℤ)) (k n : ℕ) → n ≤ k + 1 → eliminated-below w k n ≡ w
+unfolding eliminated-below
+last-step w k n h = fill-done (row-below w k n) (k + 1) n w h
+
+-- the exchange brings the pivot up
+module _ (w : List (List ℤ)) (k n : ℕ) (h : k < n) (hp : 0 < natAbs (at w (pivot-row w k n) k)) where
+  abbrev p′ : ℕ
+  p′ = pivot-row w k n
+
+  in-p : p′ < length w
+  in-p = nonzero-in w p′ k hp
+
+  in-k : k < length w
+  in-k = omega (arith, pivot-best w k n h .low, in-p)
+
+  pub exchanged-row : (i : ℕ) → getD (exchange [] w k (pivot-row w k n)) i [] ≡ getD w (transposed k (pivot-row w k n) i) []
+  exchanged-row i = exchange-at [] w k p′ i in-k in-p
+
+  pub pivoted : n ≤ 8 → AllWithin (bound k) w → Pivoted (exchange [] w k (pivot-row w k n)) k n
+  pivoted h8 hw =
+      record {
+        below = h;
+        few = h8;
+        all-in = λ i. rw (exchanged-row i) (hw (transposed k p′ i));
+        pivot = rw (exchanged-row k, transposed-first k p′) hp;
+        largest = λ i a c. rw (exchanged-row i, exchanged-row k, transposed-first k p′)
+            (transposed-cases k p′ (λ x. natAbs (at w x k) ≤ natAbs (at w p′ k)) i
+            (λ e. omega arith)
+            (λ e. best .largest k (omega arith) h)
+            (λ f g. best .largest i (omega arith) c));
+      }
+    where
+      best : Best w k k p′ n
+      best = pivot-best w k n h

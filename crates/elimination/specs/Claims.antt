@@ -1,0 +1,34 @@
+-- What is claimed of every elimination, in the words of its laws. Definitions only. Assumes nothing.
+use mathlib.Core.Path.{_≡_}
+use mathlib.Core.List.{List}
+use Prim.Native.Nat.{ℕ, _^_, _<_, _≤_}
+use lib.ListN.{getD, length}
+use lib.IntN.{ℤ, pos, natAbs}
+use Rattle.elimination.specs.Matrix.{at, AllWithin}
+use Rattle.elimination.specs.Steps.{after-steps}
+
+-- complete, n rows hold a lower and an upper factor: multipliers of at most 1 in units of 1 / 16,384 below the diagonal, pivots on it that are
+-- not 0; and no number is above 2^30
+pub record Factors (n : ℕ) (w : List (List ℤ)) : Type 0 where
+  pub multipliers : (i j : ℕ) → i < n → j < i → natAbs (at w i j) ≤ 16384
+  pub pivots : (i : ℕ) → i < n → 0 < natAbs (at w i i)
+  pub all-in : AllWithin (2 ^ 30) w
+
+-- a place below n that holds row r
+pub record Place (n : ℕ) (o : List ℕ) (r : ℕ) : Type 0 where
+  pub place : ℕ
+  pub below : place < n
+  pub holds : getD o place 0 ≡ r
+
+-- the order is a permutation of n rows: each stands at some place below n, and at one only
+pub record Permutation (n : ℕ) (o : List ℕ) : Type 0 where
+  pub eight : length o ≡ 8
+  pub below : (i : ℕ) → i < n → getD o i 0 < n
+  pub some : (r : ℕ) → r < n → Place n o r
+  pub one : (i j : ℕ) → i < n → j < n → getD o i 0 ≡ getD o j 0 → i ≡ j
+
+-- "At some step of the elimination every candidate for the pivot is zero": at the step after k, which were all made
+pub record ZeroColumn (n : ℕ) (a : List ℤ) (k : ℕ) : Type 0 where
+  pub below : k < n
+  pub reached : after-steps n a k .steps ≡ k
+  pub zero : (i : ℕ) → k ≤ i → i < n → at (after-steps n a k .rows) i k ≡ pos 0

@@ -1,0 +1,74 @@
+-- What stands in the working numbers at the start, place by place, and that all are within 2^23. Assumes nothing.
+use mathlib.Core.Path.{_≡_, refl}
+use mathlib.Core.List.{List, []}
+use Prim.Native.Nat.{ℕ, _+_, _*_, _^_, _<_, _≤_}
+use native.Mathlib.Omega.{arith}
+use lib.ListN.{getD, replicate}
+use lib.IntN.{ℤ, pos, natAbs, _*ℤ_}
+use Rattle.integers.specs.Size.{natAbs-*ℤ}
+use Rattle.elimination.specs.Matrix.{at, Within, AllWithin}
+use Rattle.elimination.specs.Steps.{scaled, working-row, working}
+use Rattle.elimination.specs.Conditions.{bound}
+use Rattle.elimination.specs.Laws.{all-same, all-fill, fill-at}
+
+-- a row of numbers that are not used
+abbrev pub zero-row : List ℤ
+zero-row = replicate 8 (pos 0)
+
+-- ---- place by place
+
+zero-at : (j : ℕ) → getD zero-row j (pos 0) ≡ pos 0
+zero-at j = all-same (λ (z : ℤ). z ≡ pos 0) (pos 0) 8 (pos 0) refl refl j
+
+zeros-at : (i j : ℕ) → at (replicate 8 zero-row) i j ≡ pos 0
+zeros-at i j = all-same (λ (l : List ℤ). getD l j (pos 0) ≡ pos 0) [] 8 zero-row (zero-at j) refl i
+
+module _ (n : ℕ) (a : List ℤ) (i j : ℕ) where
+  -- those that are used
+  pub working-used : n ≤ 8 → i < n → j < n → at (working n a) i j ≡ pos 256 *ℤ getD a (i * n + j) (pos 0)
+  unfolding working working-row
+  working-used h8 p q =
+      fill-at (λ (l : List ℤ). getD l j (pos 0) ≡ scaled n a i j) [] i (working-row n a) 0 n (replicate 8 zero-row)
+      (λ x y. fill-at (λ (z : ℤ). z ≡ scaled n a i j) (pos 0) j (scaled n a i) 0 n zero-row
+      (λ u v. refl)
+      (λ u v o. absurd (omega arith))
+      (λ o. absurd (o (omega arith) (omega arith))))
+      (λ x y o. absurd (omega arith))
+      (λ o. absurd (o (omega arith) (omega arith)))
+
+  -- and the others, past the last row or the last column
+  pub working-unused-row : n ≤ i → at (working n a) i j ≡ pos 0
+  unfolding working
+  working-unused-row h =
+      fill-at (λ (l : List ℤ). getD l j (pos 0) ≡ pos 0) [] i (working-row n a) 0 n (replicate 8 zero-row)
+      (λ x y. absurd (omega arith))
+      (λ x y o. refl)
+      (λ o. zeros-at i j)
+
+  pub working-unused-column : n ≤ j → at (working n a) i j ≡ pos 0
+  unfolding working working-row
+  working-unused-column h =
+      fill-at (λ (l : List ℤ). getD l j (pos 0) ≡ pos 0) [] i (working-row n a) 0 n (replicate 8 zero-row)
+      (λ x y. fill-at (λ (z : ℤ). z ≡ pos 0) (pos 0) j (scaled n a i) 0 n zero-row (λ u v. absurd (omega arith)) (λ u v o. refl) (λ o. zero-at j))
+      (λ x y o. refl)
+      (λ o. zeros-at i j)
+
+-- ---- within the bound
+
+pub zero-row-in : Within (bound 0) zero-row
+zero-row-in = all-same (λ (z : ℤ). natAbs z ≤ bound 0) (pos 0) 8 (pos 0) (omega arith) (omega arith)
+
+pub zeros-in : AllWithin (bound 0) (replicate 8 zero-row)
+zeros-in = all-same (Within (bound 0)) [] 8 zero-row zero-row-in (λ j. omega arith)
+
+working-row-in : (n : ℕ) (a : List ℤ) (i : ℕ) → Within (2 ^ 15) a → Within (bound 0) (working-row n a i)
+unfolding working-row
+working-row-in n a i h =
+    all-fill (λ (z : ℤ). natAbs z ≤ bound 0) (pos 0) (scaled n a i) 0 n _
+    (λ j p q. omega (arith, natAbs-*ℤ (pos 256) (getD a (i * n + j) (pos 0)), h (i * n + j)))
+    zero-row-in
+
+-- coefficients of 16 bits
+pub working-in : (n : ℕ) (a : List ℤ) → Within (2 ^ 15) a → AllWithin (bound 0) (working n a)
+unfolding working
+working-in n a h = all-fill (Within (bound 0)) [] (working-row n a) 0 n _ (λ i p q. working-row-in n a i h) zeros-in

@@ -1,0 +1,35 @@
+-- A field of a file, and what refuses a field that is due at the front of the bytes that are left.
+use Prim.Native.Nat.{ℕ, _+_, _-_}
+use mathlib.Core.List.{List, _∷_, _++_}
+use lib.ListN.{length, getD, take, drop}
+use lib.Dec.{leb, eqb}
+use Rattle.outcome.specs.declared.Refusal.the-variants.{FieldMissing, WrongTag, WrongLength, ValueCutShort}
+use Rattle.outcome.specs.declared.Status.{Status}
+use Rattle.outcome.specs.Outcome.{check, first}
+use Rattle.bigendian.specs.Number.{be, bytes}
+
+-- document 01: "one byte tag, two bytes length, then the value"
+abbrev pub header : ℕ → ℕ → List ℕ
+header tag len = tag ∷ bytes 2 len
+
+abbrev pub headerSize : ℕ
+headerSize = 3
+
+unfoldable pub field : ℕ → List ℕ → List ℕ
+field tag value = header tag (length value) ++ value
+
+-- the value of the field at the front of s, with what follows it; and what follows a value of a stated length
+abbrev pub valueOf : List ℕ → List ℕ
+valueOf s = drop headerSize s
+
+abbrev pub afterField : ℕ → List ℕ → List ℕ
+afterField len s = drop (headerSize + len) s
+
+-- document 01, refusals 2 to 5 in turn: "Fewer than three bytes are left where a field must start", "The tag is not the one due at this place",
+-- "The length is not the one due for this tag and n", "The value is cut short by the end of the input"
+unfoldable pub fieldStatus : ℕ → ℕ → List ℕ → Status
+fieldStatus tag len s =
+    first (check (leb headerSize (length s)) FieldMissing)
+    (first (check (eqb (getD s 0 0) tag) WrongTag)
+    (first (check (eqb (be (take 2 (drop 1 s))) len) WrongLength)
+    (check (leb len (length s - headerSize)) ValueCutShort)))

@@ -1,0 +1,106 @@
+-- The laws of a field: one that was written is whole, and one that is whole is what a writer writes.
+-- Assumes nothing.
+use mathlib.Core.Path.{_≡_, refl, sym, ap, _∙_}
+use mathlib.Core.List.{List, [], _∷_, _++_, append-assoc}
+use Prim.Native.Nat.{ℕ, suc, _+_, _-_, _≤_, _<_}
+use native.Mathlib.Omega.{arith}
+use lib.ListN.{length, getD, take, drop, length-append, length-take, length-drop, take-append-drop}
+use lib.Seq.{drop-drop, drop-at, drop-cons}
+use lib.Dec.{leb, eqb}
+use borrow.Author.Tests.{le-leb, leb-true, eq-eqb, eqb-true}
+use Rattle.outcome.specs.declared.Refusal.the-variants.{FieldMissing, WrongTag, WrongLength}
+use Rattle.outcome.specs.declared.Status.the-variants.{Accepted}
+use Rattle.outcome.specs.Outcome.{check}
+use Rattle.outcome.specs.Laws.{check-accepted, first-accepted}
+use Rattle.bigendian.specs.Number.{be, bytes}
+use Rattle.bigendian.specs.NumberLaws.{Bytes, be-bytes, length-bytes, bytes-of, bytes-drop}
+use Rattle.fields.specs.Field.{header, headerSize, field, valueOf, afterField, fieldStatus}
+
+pub length-header : (tag len : ℕ) → length (header tag len) ≡ headerSize
+length-header tag len = ap suc (length-bytes 2 len)
+
+pub length-field : (tag : ℕ) (v : List ℕ) → length (field tag v) ≡ headerSize + length v
+unfolding field
+length-field tag v = length-append (header tag (length v)) v ∙ omega (arith, length-header tag (length v))
+
+pub field-is-header : (tag : ℕ) (v : List ℕ) (len : ℕ) → length v ≡ len → header tag len ++ v ≡ field tag v
+unfolding field
+field-is-header tag v len e = rw e
+
+-- ---- a field that was written, with what follows it
+
+module _ (tag : ℕ) (v r : List ℕ) where
+  pub field-value : valueOf (field tag v ++ r) ≡ v ++ r
+  unfolding field bytes
+  field-value = refl
+
+  pub field-after : (len : ℕ) → length v ≡ len → afterField len (field tag v ++ r) ≡ r
+  field-after len e = sym (drop-drop len headerSize (field tag v ++ r)) ∙ rw (field-value, drop-at v r len e)
+
+  pub field-accepted : (len : ℕ) → length v ≡ len → len < 65536 → fieldStatus tag len (field tag v ++ r) ≡ Accepted
+  unfolding field bytes fieldStatus
+  field-accepted len e h = whole _ _ (v ++ r) (be-bytes 2 (length v) (omega arith) ∙ e) (omega (arith, length-append v r))
+    where
+      whole : (x y : ℕ) (q : List ℕ) → be (x ∷ y ∷ []) ≡ len → len ≤ length q → fieldStatus tag len (tag ∷ x ∷ y ∷ q) ≡ Accepted
+      whole x y q b m =
+          rw (
+            le-leb 3 (suc (suc (suc (length q)))) (omega arith),
+            eq-eqb tag tag refl,
+            eq-eqb (be (x ∷ y ∷ [])) len b,
+            le-leb len (suc (suc (suc (length q))) - 3) (omega arith),
+          )
+
+-- ---- a field that is not refused
+
+module _ (tag len : ℕ) (s : List ℕ) (accepted : fieldStatus tag len s ≡ Accepted) where
+  record Whole : Type 0 where
+    tag-is : getD s 0 0 ≡ tag
+    length-is : be (take 2 (drop 1 s)) ≡ len
+    room : headerSize + len ≤ length s
+
+  whole : Whole
+  unfolding fieldStatus
+  whole =
+      let w1 = first-accepted (check (leb headerSize (length s)) FieldMissing) _ accepted in
+      let w2 = first-accepted (check (eqb (getD s 0 0) tag) WrongTag) _ (w1 .1) in
+      let w3 = first-accepted (check (eqb (be (take 2 (drop 1 s))) len) WrongLength) _ (w2 .1) in
+      let a : 3 ≤ length s = leb-true 3 (length s) (check-accepted _ _ (w1 .0)) in
+      let b : len ≤ length s - 3 = leb-true len (length s - 3) (check-accepted _ _ (w3 .1)) in
+      record {
+        tag-is = eqb-true _ _ (check-accepted _ _ (w2 .0));
+        length-is = eqb-true _ _ (check-accepted _ _ (w3 .0));
+        room = omega arith;
+      }
+
+  pub field-room : headerSize + len ≤ length s
+  field-room = whole .room
+
+  pub value-room : len ≤ length (valueOf s)
+  value-room = simp length-drop (omega (arith, field-room))
+
+  pub field-is : Bytes s → field tag (take len (valueOf s)) ++ afterField len s ≡ s
+  unfolding field
+  field-is bs =
+      let w = whole in
+      let a : headerSize + len ≤ length s = w .room in
+      let d : 2 ≤ length (drop 1 s) = simp length-drop (omega arith) in
+      let b : bytes 2 len ≡ take 2 (drop 1 s) = rw (← (w .length-is)) (bytes-of 2 (drop 1 s) (bytes-drop 1 bs) d) in
+      let l : length (take len (drop 3 s)) ≡ len = simp (length-take, length-drop) (omega arith) in
+      let c : s ≡ getD s 0 0 ∷ drop 1 s = drop-cons s 0 0 (omega arith) in
+      rw (
+        l,
+        b,
+        append-assoc (take 2 (drop 1 s)) (take len (drop 3 s)) (drop (3 + len) s),
+        ← (drop-drop len 3 s),
+        take-append-drop len (drop 3 s),
+        ← (drop-drop 2 1 s),
+        take-append-drop 2 (drop 1 s),
+        ← (w .tag-is),
+      )
+      (sym c)
+
+-- where it stands in the whole input
+pub field-room-at : (tag len : ℕ) (s : List ℕ) (at : ℕ) → fieldStatus tag len (drop at s) ≡ Accepted → at + (headerSize + len) ≤ length s
+field-room-at tag len s at e =
+    let r : headerSize + len ≤ length s - at = rw (length-drop at s) at (field-room tag len (drop at s) e) in
+    omega arith

@@ -1,0 +1,42 @@
+// Fields of a file: one byte tag, two bytes length, then the value.
+ghost use mathlib.Core.Path.{_≡_};
+ghost use Prim.Native.Nat.{_≤_};
+ghost use lib.ListN.{length, drop};
+ghost use Rattle.bigendian.specs.Number.{onto};
+ghost use Rattle.fields.specs.Field.{header, headerSize, fieldStatus};
+use outcome::Refusal;
+use outcome::Status;
+
+pub const HEADER_SIZE: usize = 3;
+
+// Whether the field that starts at a place of s has this tag, this length and its whole value: the first of refusals 2 to 5, or none.
+pub fn check_field(s: &[u8], at: usize, tag: u8, len: usize) -> Status
+    ensures { λ r. ⌜ r ≡ fieldStatus tag len (drop at (now (s .entry))) ⌝ }
+{
+    if s.len() < at {
+        return Status::Refused(Refusal::FieldMissing);
+    }
+    let left = s.len() - at;
+    if left < HEADER_SIZE {
+        return Status::Refused(Refusal::FieldMissing);
+    }
+    if s[at] != tag {
+        return Status::Refused(Refusal::WrongTag);
+    }
+    if bigendian::read_u16(s, at + 1) as usize != len {
+        return Status::Refused(Refusal::WrongLength);
+    }
+    if left - HEADER_SIZE < len {
+        return Status::Refused(Refusal::ValueCutShort);
+    }
+    Status::Accepted
+}
+
+// The header of a field, over the front of out.
+pub fn write_header(out: &mut [u8], tag: u8, len: u16)
+    requires { ⌜ headerSize ≤ length (now out) ⌝ }
+    ensures { λ _. ⌜ now (out .exit) ≡ onto (header tag len) (now (out .entry)) ⌝ }
+{
+    out[0] = tag;
+    bigendian::write_u16(&mut out[1..], len);
+}

@@ -1,0 +1,78 @@
+-- `figures::write_u16s` meets its contract: the law of writing loops, for unsigned figures.
+-- Assumes nothing.
+use Prim.Native.Nat.{_-_}
+use native.Mathlib.Omega.{arith}
+use lib.ListN.{length}
+use Rattle.figures.specs.Figures.{u16}
+use Rattle.figures.specs.LoopLaws.{Writing, write-begun, write-next, write-turn, write-ended}
+use Rattle.figures.proofs.write_u16s.Statement.{statement}
+use Rattle.figures.proofs.write_u16s.Tie as tie
+
+abbrev Inv-loop : tie.InvT-loop
+Inv-loop out₀ a i₀ p₀ out i p = Writing u16 a out₀ out i p
+
+abbrev μ-loop : tie.MeasureT-loop
+μ-loop out₀ a i₀ p₀ out i p = length a - i
+
+loop-holds : tie.Need-loop-holds Inv-loop μ-loop
+loop-holds c = write-begun _ _ _ (omega arith)
+
+sub-write-u16 : tie.Need-sub-write-u16 Inv-loop μ-loop
+sub-write-u16 c = let n = write-next _ _ _ (c .before .loop .inv) (c .loop-test .taken) in
+    omega arith
+
+part-write-u16-start : tie.Need-part-write-u16-start Inv-loop μ-loop
+part-write-u16-start c = let n = write-next _ _ _ (c .before .loop .inv) (c .loop-test .taken) in
+    omega arith
+
+part-write-u16-end : tie.Need-part-write-u16-end Inv-loop μ-loop
+part-write-u16-end c = omega arith
+
+mul-write-u16 : tie.Need-mul-write-u16 Inv-loop μ-loop
+mul-write-u16 c = omega arith
+
+shared-slice-read-write-u16 : tie.Need-shared-slice-read-write-u16 Inv-loop μ-loop
+shared-slice-read-write-u16 c = omega arith
+
+write-u16-requires : tie.Need-write-u16-requires Inv-loop μ-loop
+write-u16-requires c κs = let n = write-next _ _ _ (c .before .before .before .loop .inv) (c .before .before .loop-test .taken) in
+    omega arith
+
+add-i : tie.Need-add-i Inv-loop μ-loop
+add-i c = omega arith
+
+add-p : tie.Need-add-p Inv-loop μ-loop
+add-p c = let n = write-next _ _ _ (c .before .before .before .before .before .before .loop .inv) (c .before .before .before .before .before .loop-test .taken) in
+    omega (arith, c .before .before .before .before .before .before .before .before .before .good, c .before .before .before .before .before .before .loop .inv .same)
+
+loop-less : tie.Need-loop-less Inv-loop μ-loop
+loop-less c = omega arith
+
+loop-again : tie.Need-loop-again Inv-loop μ-loop
+loop-again c = write-turn _ _ _ 0 (c .before .before .before .before .before .before .loop .inv) (c .before .before .before .before .before .loop-test .taken) (c .before .before .write-u16 .ensures)
+
+same-length : tie.Need-same-length Inv-loop μ-loop
+same-length c = omega arith
+
+returns : tie.Need-returns Inv-loop μ-loop
+returns c = write-ended _ _ _ (c .before .loop .inv) (c .loop-test .left)
+
+pub write-u16s-spec : {M : Type 1} → statement M
+write-u16s-spec =
+    tie.close
+    (tie.spec
+    Inv-loop
+    μ-loop
+    loop-holds
+    sub-write-u16
+    part-write-u16-start
+    part-write-u16-end
+    mul-write-u16
+    shared-slice-read-write-u16
+    write-u16-requires
+    add-i
+    add-p
+    loop-less
+    loop-again
+    same-length
+    returns)

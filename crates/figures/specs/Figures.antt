@@ -1,0 +1,68 @@
+-- Kinds of figures, and runs of figures of one kind as bytes.
+use Prim.Native.Nat.{ℕ, zero, suc, _*_}
+use mathlib.Core.Bool.{Bool, true, _&&_}
+use mathlib.Core.List.{List, [], _∷_, _++_}
+use mathlib.Core.Path.{_≡_}
+use lib.ListN.{length, take, drop}
+use lib.IntN.{ℤ, natAbs}
+use lib.Dec.{leb}
+use mir.Syntax.{Width, w16, w32}
+use mir.Val.{toZ, ofZ}
+use Rattle.bigendian.specs.Number.{be, bytes}
+
+-- how many bytes a figure has, the figure of a number so written, and the number of a figure
+pub record Kind (X : Type 0) : Type 0 where
+  pub width : ℕ
+  pub figure : ℕ → X
+  pub number : X → ℕ
+
+abbrev pub unsigned : ℕ → Kind ℕ
+unsigned n = record { width = n; figure = λ x. x; number = λ x. x }
+
+-- document 01: "signed ones in two's complement"
+abbrev pub signed : ℕ → Width → Kind ℤ
+signed n w = record { width = n; figure = toZ w; number = ofZ w }
+
+-- named as the code's types
+abbrev pub u16 : Kind ℕ
+u16 = unsigned 2
+
+abbrev pub u32 : Kind ℕ
+u32 = unsigned 4
+
+abbrev pub i16 : Kind ℤ
+i16 = signed 2 w16
+
+abbrev pub i32 : Kind ℤ
+i32 = signed 4 w32
+
+-- limits: from 0 to the limit, and from minus the limit to the limit
+abbrev pub upTo : ℕ → ℕ → Bool
+upTo limit x = leb x limit
+
+abbrev pub within : ℕ → ℤ → Bool
+within limit z = leb (natAbs z) limit
+
+module _ {X : Type 0} where
+  -- the first n figures at the front of v
+  unfoldable pub figures : Kind X → ℕ → List ℕ → List X
+  figures k zero v = []
+  figures k (suc n) v = k .figure (be (take (k .width) v)) ∷ figures k n (drop (k .width) v)
+
+  -- what follows them
+  abbrev pub after : Kind X → ℕ → List ℕ → List ℕ
+  after k n v = drop (k .width * n) v
+
+  -- the bytes of a run of figures
+  unfoldable pub spread : Kind X → List X → List ℕ
+  spread k [] = []
+  spread k (x ∷ xs) = bytes (k .width) (k .number x) ++ spread k xs
+
+  unfoldable pub all : (X → Bool) → List X → Bool
+  all p [] = true
+  all p (x ∷ xs) = p x && all p xs
+
+-- what reading as many figures as out has places, from the front of v, gives: whether all pass the test and, where they do, the figures in out
+pub record Read {X : Type 0} (k : Kind X) (f : X → Bool) (v : List ℕ) (entry : List X) (r : Bool) (exit : List X) : Type 0 where
+  pub test : r ≡ all f (figures k (length entry) v)
+  pub made : r ≡ true → exit ≡ figures k (length entry) v

@@ -1,0 +1,196 @@
+// Runs of figures of one kind: read with a test of their limits, tested, and written.
+// One law over the kind of figure stands behind each of the three loops.
+ghost use mathlib.Core.Path.{_≡_};
+ghost use Prim.Native.Nat.{_+_, _*_, _≤_};
+ghost use lib.ListN.{length, drop};
+ghost use Rattle.bigendian.specs.Number.{onto};
+ghost use Rattle.figures.specs.Figures.{i16, u16, i32, u32, upTo, within as fits, spread, all, Read};
+
+// Whether the size of a number is at most the limit.
+pub fn within(z: i64, limit: u64) -> bool
+    ensures { λ r. ⌜ r ≡ fits limit z ⌝ }
+{
+    integers::magnitude(z) <= limit
+}
+
+// Reading: as many figures as out has places, from a place of s on. It says whether all are within the limit; where one is not, what out holds is left open.
+
+pub fn read_i16s(s: &[u8], at: usize, limit: u64, out: &mut [i16]) -> bool
+    requires { ⌜ at + 2 * length (now out) ≤ length (now s) ⌝ }
+    ensures { λ r. ⌜ Read i16 (fits limit) (drop at (now (s .entry))) (now (out .entry)) r (now (out .exit)) ⌝ }
+{
+    let mut i = 0;
+    let mut p = at;
+    while i < out.len() {
+        let x = bigendian::read_i16(s, p);
+        if !within(x as i64, limit) {
+            return false;
+        }
+        out[i] = x;
+        i += 1;
+        p += 2;
+    }
+    true
+}
+
+pub fn read_u16s(s: &[u8], at: usize, limit: u64, out: &mut [u16]) -> bool
+    requires { ⌜ at + 2 * length (now out) ≤ length (now s) ⌝ }
+    ensures { λ r. ⌜ Read u16 (upTo limit) (drop at (now (s .entry))) (now (out .entry)) r (now (out .exit)) ⌝ }
+{
+    let mut i = 0;
+    let mut p = at;
+    while i < out.len() {
+        let x = bigendian::read_u16(s, p);
+        if limit < x as u64 {
+            return false;
+        }
+        out[i] = x;
+        i += 1;
+        p += 2;
+    }
+    true
+}
+
+pub fn read_i32s(s: &[u8], at: usize, limit: u64, out: &mut [i32]) -> bool
+    requires { ⌜ at + 4 * length (now out) ≤ length (now s) ⌝ }
+    ensures { λ r. ⌜ Read i32 (fits limit) (drop at (now (s .entry))) (now (out .entry)) r (now (out .exit)) ⌝ }
+{
+    let mut i = 0;
+    let mut p = at;
+    while i < out.len() {
+        let x = bigendian::read_i32(s, p);
+        if !within(x as i64, limit) {
+            return false;
+        }
+        out[i] = x;
+        i += 1;
+        p += 4;
+    }
+    true
+}
+
+pub fn read_u32s(s: &[u8], at: usize, limit: u64, out: &mut [u32]) -> bool
+    requires { ⌜ at + 4 * length (now out) ≤ length (now s) ⌝ }
+    ensures { λ r. ⌜ Read u32 (upTo limit) (drop at (now (s .entry))) (now (out .entry)) r (now (out .exit)) ⌝ }
+{
+    let mut i = 0;
+    let mut p = at;
+    while i < out.len() {
+        let x = bigendian::read_u32(s, p);
+        if limit < x as u64 {
+            return false;
+        }
+        out[i] = x;
+        i += 1;
+        p += 4;
+    }
+    true
+}
+
+// Testing: whether every figure of the list is within the limit.
+
+pub fn all_i16(a: &[i16], limit: u64) -> bool
+    ensures { λ r. ⌜ r ≡ all (fits limit) (now (a .entry)) ⌝ }
+{
+    let mut i = 0;
+    while i < a.len() {
+        if !within(a[i] as i64, limit) {
+            return false;
+        }
+        i += 1;
+    }
+    true
+}
+
+pub fn all_u16(a: &[u16], limit: u64) -> bool
+    ensures { λ r. ⌜ r ≡ all (upTo limit) (now (a .entry)) ⌝ }
+{
+    let mut i = 0;
+    while i < a.len() {
+        if limit < a[i] as u64 {
+            return false;
+        }
+        i += 1;
+    }
+    true
+}
+
+pub fn all_i32(a: &[i32], limit: u64) -> bool
+    ensures { λ r. ⌜ r ≡ all (fits limit) (now (a .entry)) ⌝ }
+{
+    let mut i = 0;
+    while i < a.len() {
+        if !within(a[i] as i64, limit) {
+            return false;
+        }
+        i += 1;
+    }
+    true
+}
+
+pub fn all_u32(a: &[u32], limit: u64) -> bool
+    ensures { λ r. ⌜ r ≡ all (upTo limit) (now (a .entry)) ⌝ }
+{
+    let mut i = 0;
+    while i < a.len() {
+        if limit < a[i] as u64 {
+            return false;
+        }
+        i += 1;
+    }
+    true
+}
+
+// Writing: the figures of the list, over the front of out.
+
+pub fn write_i16s(out: &mut [u8], a: &[i16])
+    requires { ⌜ 2 * length (now a) ≤ length (now out) ⌝ }
+    ensures { λ _. ⌜ now (out .exit) ≡ onto (spread i16 (now (a .entry))) (now (out .entry)) ⌝ }
+{
+    let mut i = 0;
+    let mut p = 0;
+    while i < a.len() {
+        bigendian::write_i16(&mut out[p..], a[i]);
+        i += 1;
+        p += 2;
+    }
+}
+
+pub fn write_u16s(out: &mut [u8], a: &[u16])
+    requires { ⌜ 2 * length (now a) ≤ length (now out) ⌝ }
+    ensures { λ _. ⌜ now (out .exit) ≡ onto (spread u16 (now (a .entry))) (now (out .entry)) ⌝ }
+{
+    let mut i = 0;
+    let mut p = 0;
+    while i < a.len() {
+        bigendian::write_u16(&mut out[p..], a[i]);
+        i += 1;
+        p += 2;
+    }
+}
+
+pub fn write_i32s(out: &mut [u8], a: &[i32])
+    requires { ⌜ 4 * length (now a) ≤ length (now out) ⌝ }
+    ensures { λ _. ⌜ now (out .exit) ≡ onto (spread i32 (now (a .entry))) (now (out .entry)) ⌝ }
+{
+    let mut i = 0;
+    let mut p = 0;
+    while i < a.len() {
+        bigendian::write_i32(&mut out[p..], a[i]);
+        i += 1;
+        p += 4;
+    }
+}
+
+pub fn write_u32s(out: &mut [u8], a: &[u32])
+    requires { ⌜ 4 * length (now a) ≤ length (now out) ⌝ }
+    ensures { λ _. ⌜ now (out .exit) ≡ onto (spread u32 (now (a .entry))) (now (out .entry)) ⌝ }
+{
+    let mut i = 0;
+    let mut p = 0;
+    while i < a.len() {
+        bigendian::write_u32(&mut out[p..], a[i]);
+        i += 1;
+        p += 4;
+    }
+}

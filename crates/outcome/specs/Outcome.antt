@@ -1,0 +1,60 @@
+-- The paper's number of each refusal and of each outcome, and the first of two checks that refuses.
+use Prim.Native.Nat.{ℕ, _-_}
+use mathlib.Core.List.{List, [], _∷_}
+use lib.ListN.{getD}
+use mathlib.Core.Bool.{Bool, true, false}
+use Rattle.outcome.specs.declared.Refusal.{Refusal}
+use Rattle.outcome.specs.declared.Refusal.the-variants.{BufferTooShort, FieldMissing, WrongTag, WrongLength, ValueCutShort, OutsideLimits, TrailingBytes, ZeroPivot, OutsideRange}
+use Rattle.outcome.specs.declared.Outcome.{Outcome}
+use Rattle.outcome.specs.declared.Outcome.the-variants.{Count, Refused}
+use Rattle.outcome.specs.declared.Status.{Status}
+use Rattle.outcome.specs.declared.Status.the-variants.{Accepted, Refused as RefusedBy}
+
+-- document 01, "Refused, in this order"
+abbrev pub numberOf : Refusal → ℕ
+numberOf BufferTooShort = 1
+numberOf FieldMissing = 2
+numberOf WrongTag = 3
+numberOf WrongLength = 4
+numberOf ValueCutShort = 5
+numberOf OutsideLimits = 6
+numberOf TrailingBytes = 7
+numberOf ZeroPivot = 8
+numberOf OutsideRange = 9
+
+-- the refusals in the order of their numbers
+abbrev pub refusals : List Refusal
+refusals =
+    BufferTooShort
+    ∷ FieldMissing
+    ∷ WrongTag
+    ∷ WrongLength
+    ∷ ValueCutShort
+    ∷ OutsideLimits
+    ∷ TrailingBytes
+    ∷ ZeroPivot
+    ∷ OutsideRange
+    ∷ []
+
+-- the refusal that has a number from 1 on; a number that none has goes to the last
+abbrev pub refusalOf : ℕ → Refusal
+refusalOf k = getD refusals (k - 1) OutsideRange
+
+-- "Every outcome says whether its number is a count or a refusal": whether it refuses, and its number
+abbrev pub refuses : Outcome → Bool
+refuses (Count m) = false
+refuses (Refused r) = true
+
+abbrev pub outcomeNumber : Outcome → ℕ
+outcomeNumber (Count m) = m
+outcomeNumber (Refused r) = numberOf r
+
+-- a test, and the refusal where it fails
+abbrev pub check : Bool → Refusal → Status
+check true r = Accepted
+check false r = RefusedBy r
+
+-- the first refusal of two checks
+abbrev pub first : Status → Status → Status
+first Accepted t = t
+first (RefusedBy r) t = RefusedBy r

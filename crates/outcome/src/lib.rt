@@ -1,0 +1,45 @@
+// What a call answers: a count or a refusal, and the number that document 01 gives each refusal.
+ghost use mathlib.Core.Path.{_≡_};
+ghost use Rattle.outcome.specs.Outcome.{numberOf};
+
+// Document 01, "Refused, in this order".
+pub enum Refusal {
+    BufferTooShort,
+    FieldMissing,
+    WrongTag,
+    WrongLength,
+    ValueCutShort,
+    OutsideLimits,
+    TrailingBytes,
+    ZeroPivot,
+    OutsideRange,
+}
+
+// The answer of a call that writes: how many bytes, or why none.
+pub enum Outcome {
+    Count(usize),
+    Refused(Refusal),
+}
+
+// The answer of a check.
+pub enum Status {
+    Accepted,
+    Refused(Refusal),
+}
+
+// The number of a refusal.
+pub fn number(refusal: Refusal) -> u8
+    ensures { λ r. ⌜ r ≡ numberOf refusal ⌝ }
+{
+    match refusal {
+        Refusal::BufferTooShort => 1,
+        Refusal::FieldMissing => 2,
+        Refusal::WrongTag => 3,
+        Refusal::WrongLength => 4,
+        Refusal::ValueCutShort => 5,
+        Refusal::OutsideLimits => 6,
+        Refusal::TrailingBytes => 7,
+        Refusal::ZeroPivot => 8,
+        Refusal::OutsideRange => 9,
+    }
+}

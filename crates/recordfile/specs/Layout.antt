@@ -1,0 +1,85 @@
+-- The bytes of a record: document 01, "A record is". Definitions only. Assumes nothing.
+use mathlib.Core.Path.{_≡_}
+use mathlib.Core.Bool.{Bool, true, false}
+use mathlib.Core.List.{List, [], _∷_, _++_}
+use Prim.Native.Nat.{ℕ, zero, suc, _+_, _*_, _≤_, _<_}
+use lib.ListN.{getD}
+use lib.IntN.{ℤ, pos}
+use mir.Syntax.{w32, w64}
+use mir.Val.{ofZ}
+use Rattle.bigendian.specs.Number.{bytes, onto}
+use Rattle.fields.specs.Field.{field}
+use Rattle.judge.specs.declared.Judgement.{Judgement}
+
+-- the tags 10, 11, 12, 13 and FF, hexadecimal
+abbrev pub verdictTag : ℕ
+verdictTag = 0x10
+
+abbrev pub answerTag : ℕ
+answerTag = 0x11
+
+abbrev pub rowsTag : ℕ
+rowsTag = 0x12
+
+abbrev pub factorTag : ℕ
+factorTag = 0x13
+
+abbrev pub endTag : ℕ
+endTag = 0xFF
+
+abbrev pub flag : Bool → ℕ
+flag true = 1
+flag false = 0
+
+-- "residual (8 bytes, signed) and reach (8 bytes, unsigned)"
+abbrev pub pair : ℤ → ℕ → List ℕ
+pair R T = bytes 8 (ofZ w64 R) ++ bytes 8 T
+
+-- the pieces 0 to n − 1, one behind the other
+unfoldable pub run : ℕ → (ℕ → List ℕ) → List ℕ
+run zero piece = []
+run (suc n) piece = run n piece ++ piece n
+
+-- "1 for met or 0 for not met; the first unmet row or 0; rounds used"
+abbrev pub verdictField : Bool → ℕ → ℕ → List ℕ
+verdictField met unmet rounds = field verdictTag (flag met ∷ unmet ∷ rounds ∷ [])
+
+-- "the answer, 4 bytes each": the first n figures of Y
+abbrev pub answerField : ℕ → List ℤ → List ℕ
+answerField n Y = field answerTag (run n (λ j. bytes 4 (ofZ w32 (getD Y j (pos 0)))))
+
+-- "Each row's pair is written into that row's sixteen bytes"
+abbrev pub rowsField : ℕ → List ℤ → List ℕ → List ℕ
+rowsField n R T = field rowsTag (run n (λ i. pair (getD R i (pos 0)) (getD T i 0)))
+
+-- "0 for a factor or 1 for none; the row that decides"
+abbrev pub factorField : Bool → ℕ → List ℕ
+factorField none decides = field factorTag (flag none ∷ decides ∷ [])
+
+-- the fields 10 to 13 of an answer of n figures, the rounds used and its judgement
+unfoldable pub judgedFields : ℕ → ℕ → List ℤ → Judgement → List ℕ
+judgedFields n rounds Y j =
+    ((verdictField (j .met) (j .unmet) rounds ++ answerField n Y)
+    ++ rowsField n (j .residuals) (j .reaches))
+    ++ factorField (j .none) (j .decides)
+
+-- and the end field
+unfoldable pub recordOf : ℕ → ℕ → List ℤ → Judgement → List ℕ
+recordOf n rounds Y j = judgedFields n rounds Y j ++ field endTag []
+
+-- "It has 20 + 20n bytes"
+abbrev pub recordLength : ℕ → ℕ
+recordLength n = 20 + 20 * n
+
+-- what the writer of a record asks: at most 8 rows, rows and rounds of a byte each, and room
+pub record Holds (n rounds : ℕ) (j : Judgement) (room : ℕ) : Type 0 where
+  pub rows : n ≤ 8
+  pub rounds-byte : rounds < 256
+  pub unmet-byte : j .unmet < 256
+  pub decides-byte : j .decides < 256
+  pub enough : recordLength n ≤ room
+
+-- what it returns and leaves
+pub record Written (n rounds : ℕ) (Y : List ℤ) (j : Judgement) (entry : List ℕ) (r : ℕ) (exit : List ℕ) : Type 0 where
+  pub count : r ≡ recordLength n
+  pub buffer : exit ≡ onto (recordOf n rounds Y j) entry

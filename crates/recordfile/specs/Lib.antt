@@ -1,0 +1,4 @@
+pub mod Layout
+pub mod Laws
+pub mod ReadOff
+pub mod ReadOffLaws

@@ -1,0 +1,116 @@
+-- `report::write_answer_line` meets its contract: four texts, one after another.
+-- Assumes nothing.
+use mathlib.Core.List.{[], _∷_}
+use Prim.Native.Nat.{_≤_}
+use native.Mathlib.Nat.{lt-of-le-of-lt}
+use native.Mathlib.Omega.{arith}
+use lib.Dec.{lit<}
+use lib.ListN.{length}
+use denote.Ref.{now}
+use borrow.Author.Needs.{needs}
+use Rattle.decimal.specs.Buffer.{ascii, Room, Wrote}
+use Rattle.decimal.specs.BufferLaws.{Rooms, room-here, room-after, wrote-first, wrote-last}
+use mir.Syntax.{w32, w64}
+use mir.Val.{SFits}
+use mir.Facts.{toZ-ofZ}
+use Rattle.decimal.specs.Decimal.{fixed-point}
+use Rattle.report.specs.Text.{labelled, answer-line, line-feed, answer-room}
+use Rattle.report.specs.TextLaws.{length-answer-line}
+use Rattle.integers.specs.Size.{size-sfits, widen}
+use Rattle.report.proofs.write_answer_line.Statement.{statement}
+use Rattle.report.proofs.write_answer_line.Tie as tie
+
+short : (s : tie.Start) → length (answer-line (s .args .e) (s .args .tank) (s .args .figure)) ≤ answer-room
+short s =
+    length-answer-line (s .args .e) (s .args .tank) (s .args .figure) (s .pre .0) (s .pre .1 .0)
+    (lt-of-le-of-lt (size-sfits {w = w32} (s .fits .figure)) (lit< tt))
+
+whole-room : (s : tie.Start) → Room (answer-line (s .args .e) (s .args .tank) (s .args .figure)) (s .args .at) (now (s .args .out))
+whole-room s = record { room = omega (arith, short s, s .pre .1 .1) }
+
+wide : (s : tie.Start) → SFits w64 (s .args .figure)
+wide s = widen {v = w32} tt (s .fits .figure)
+
+room : (s : tie.Start) → Rooms (labelled (ascii "answer ") (s .args .tank) ∷ ascii " " ∷ fixed-point (s .args .e) (s .args .figure) ∷ line-feed ∷ []) (s .args .at) (now (s .args .out))
+unfolding answer-line
+room s = record { whole = whole-room s }
+
+-- after the space
+module _ (b : tie.After-write-bytes) where
+  abbrev first : tie.After-write-labelled
+  first = b .before .before .before .before .before
+
+  abbrev start : tie.Start
+  start = first .before .before .before .before
+
+  left : Rooms (fixed-point (start .args .e) (start .args .figure) ∷ line-feed ∷ []) (b .write-bytes .result) (b .write-bytes .last .1 .1 .0)
+  left = room-after (room-after (room start) (first .write-labelled .ensures)) (b .write-bytes .ensures)
+
+-- the figure is written
+figure : (f : tie.After-write-fixed-point) → let b = f .before .before .before .before in Wrote (fixed-point (start b .args .e) (start b .args .figure)) (b .write-bytes .result) (b .write-bytes .last .1 .1 .0) (f .write-fixed-point .result) (f .write-fixed-point .last .1 .1 .1 .0)
+figure f =
+    let s = start (f .before .before .before .before) in
+    rw (toZ-ofZ {w = w32} (s .fits .figure), toZ-ofZ {w = w64} (wide s)) at (f .write-fixed-point .ensures)
+
+slice-aggregate-write-labelled : tie.Need-slice-aggregate-write-labelled
+slice-aggregate-write-labelled c = search needs
+
+write-labelled-requires : tie.Need-write-labelled-requires
+write-labelled-requires c κs = room-here (room (c .before .before .before))
+
+slice-aggregate-write-bytes : tie.Need-slice-aggregate-write-bytes
+slice-aggregate-write-bytes c = search needs
+
+write-bytes-requires : tie.Need-write-bytes-requires
+write-bytes-requires c κs =
+    let l = c .before .before .before .before in
+    room-here (room-after (room (l .before .before .before .before)) (l .write-labelled .ensures))
+
+cast-write-fixed-point : tie.Need-cast-write-fixed-point
+cast-write-fixed-point c =
+    let s = start (c .before .before) in
+    rw (toZ-ofZ {w = w32} (s .fits .figure)) (wide s)
+
+write-fixed-point-requires : tie.Need-write-fixed-point-requires
+write-fixed-point-requires c κs =
+    let b = c .before .before .before in
+    rw (toZ-ofZ {w = w32} (start b .fits .figure), toZ-ofZ {w = w64} (wide (start b))) (start b .pre .0, room-here (left b))
+
+slice-aggregate-write-bytes-2 : tie.Need-slice-aggregate-write-bytes-2
+slice-aggregate-write-bytes-2 c = search needs
+
+write-bytes-requires-2 : tie.Need-write-bytes-requires-2
+write-bytes-requires-2 c κs =
+    let f = c .before .before .before .before in
+    room-here (room-after (left (f .before .before .before .before)) (figure f))
+
+same-length : tie.Need-same-length
+same-length c = search needs
+
+returns : tie.Need-returns
+unfolding answer-line
+returns c =
+    let e = c .before .before in
+    let f = e .before .before .before .before .before in
+    let b = f .before .before .before .before in
+    let r = room (start b) in
+    let w =
+    wrote-first r (first b .write-labelled .ensures)
+    (wrote-first (room-after r (first b .write-labelled .ensures)) (b .write-bytes .ensures)
+    (wrote-first (left b) (figure f) (wrote-last (e .write-bytes2 .ensures)))) in
+    record { short = short (start b); wrote = w .whole }
+
+pub write-answer-line-spec : {M : Type 1} → statement M
+write-answer-line-spec =
+    tie.close
+    (tie.spec
+    slice-aggregate-write-labelled
+    write-labelled-requires
+    slice-aggregate-write-bytes
+    write-bytes-requires
+    cast-write-fixed-point
+    write-fixed-point-requires
+    slice-aggregate-write-bytes-2
+    write-bytes-requires-2
+    same-length
+    returns)

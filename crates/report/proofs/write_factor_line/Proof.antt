@@ -1,0 +1,58 @@
+-- `report::write_factor_line` meets its contract: two texts, one after another.
+-- Assumes nothing.
+use mathlib.Core.List.{[], _∷_}
+use Prim.Native.Nat.{_≤_}
+use native.Mathlib.Nat.{lt-of-lt-of-le}
+use native.Mathlib.Omega.{arith}
+use lib.Dec.{lit≤}
+use lib.ListN.{length}
+use denote.Ref.{now}
+use borrow.Author.Needs.{needs}
+use Rattle.decimal.specs.Buffer.{Room}
+use Rattle.decimal.specs.BufferLaws.{Rooms, room-here, room-after, wrote-first, wrote-last}
+use Rattle.report.specs.Text.{labelled, factor-word, factor-line, line-feed, factor-room}
+use Rattle.report.specs.TextLaws.{length-factor-line}
+use Rattle.report.proofs.write_factor_line.Statement.{statement}
+use Rattle.report.proofs.write_factor_line.Tie as tie
+
+short : (s : tie.Start) → length (factor-line (s .args .none) (s .args .row)) ≤ factor-room
+short s = length-factor-line (s .args .none) (s .args .row) (lt-of-lt-of-le (s .fits .row .fits) (lit≤ tt))
+
+whole-room : (s : tie.Start) → Room (factor-line (s .args .none) (s .args .row)) (s .args .at) (now (s .args .out))
+whole-room s = record { room = omega (arith, short s, s .pre) }
+
+room : (s : tie.Start) → Rooms (labelled (factor-word (s .args .none)) (s .args .row) ∷ line-feed ∷ []) (s .args .at) (now (s .args .out))
+unfolding factor-line
+room s = record { whole = whole-room s }
+
+write-factor-requires : tie.Need-write-factor-requires
+write-factor-requires c κs = room-here (room (c .before .before))
+
+slice-aggregate-write-bytes : tie.Need-slice-aggregate-write-bytes
+slice-aggregate-write-bytes c = search needs
+
+write-bytes-requires : tie.Need-write-bytes-requires
+write-bytes-requires c κs =
+    let f = c .before .before .before .before in
+    room-here (room-after (room (f .before .before .before)) (f .write-factor .ensures))
+
+same-length : tie.Need-same-length
+same-length c = search needs
+
+returns : tie.Need-returns
+unfolding factor-line
+returns c =
+    let f = c .before .before .before .before .before .before .before in
+    let s = f .before .before .before in
+    let w = wrote-first (room s) (f .write-factor .ensures) (wrote-last (c .before .before .write-bytes .ensures)) in
+    record { short = short s; wrote = w .whole }
+
+pub write-factor-line-spec : {M : Type 1} → statement M
+write-factor-line-spec =
+    tie.close
+    (tie.spec
+    write-factor-requires
+    slice-aggregate-write-bytes
+    write-bytes-requires
+    same-length
+    returns)

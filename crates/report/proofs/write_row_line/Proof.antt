@@ -1,0 +1,122 @@
+-- `report::write_row_line` meets its contract: five texts, one after another.
+-- Assumes nothing.
+use mathlib.Core.List.{[], _∷_}
+use Prim.Native.Nat.{_≤_}
+use native.Mathlib.Nat.{lt-of-lt-of-le, lt-of-le-of-lt}
+use native.Mathlib.Omega.{arith}
+use lib.Dec.{lit≤, lit<}
+use lib.ListN.{length}
+use denote.Ref.{now}
+use borrow.Author.Needs.{needs}
+use Rattle.decimal.specs.Buffer.{ascii, Room, Wrote}
+use Rattle.decimal.specs.BufferLaws.{Rooms, room-here, room-after, wrote-first, wrote-last}
+use mir.Syntax.{w64}
+use mir.Facts.{toZ-ofZ}
+use Rattle.decimal.specs.Decimal.{signed}
+use Rattle.report.specs.Text.{labelled, row-line, line-feed, row-room}
+use Rattle.report.specs.TextLaws.{length-row-line}
+use Rattle.integers.specs.Size.{size-sfits}
+use Rattle.report.proofs.write_row_line.Statement.{statement}
+use Rattle.report.proofs.write_row_line.Tie as tie
+
+short : (s : tie.Start) → length (row-line (s .args .row) (s .args .residual) (s .args .reach)) ≤ row-room
+short s =
+    length-row-line (s .args .row) (s .args .residual) (s .args .reach) (s .pre .0)
+    (lt-of-le-of-lt (size-sfits {w = w64} (s .fits .residual)) (lit< tt))
+    (lt-of-lt-of-le (s .fits .reach .fits) (lit≤ tt))
+
+whole-room : (s : tie.Start) → Room (row-line (s .args .row) (s .args .residual) (s .args .reach)) (s .args .at) (now (s .args .out))
+whole-room s = record { room = omega (arith, short s, s .pre .1) }
+
+room : (s : tie.Start) → Rooms (labelled (ascii "row ") (s .args .row) ∷ ascii " residual " ∷ signed (s .args .residual) ∷ labelled (ascii " reach ") (s .args .reach) ∷ line-feed ∷ []) (s .args .at) (now (s .args .out))
+unfolding row-line
+room s = record { whole = whole-room s }
+
+-- after the second word
+module _ (b : tie.After-write-bytes) where
+  abbrev first : tie.After-write-labelled
+  first = b .before .before .before .before .before
+
+  abbrev start : tie.Start
+  start = first .before .before .before .before
+
+  left : Rooms (signed (start .args .residual) ∷ labelled (ascii " reach ") (start .args .reach) ∷ line-feed ∷ []) (b .write-bytes .result) (b .write-bytes .last .1 .1 .0)
+  left = room-after (room-after (room start) (first .write-labelled .ensures)) (b .write-bytes .ensures)
+
+-- after the residual
+module _ (f : tie.After-write-signed) where
+  abbrev second : tie.After-write-bytes
+  second = f .before .before .before .before
+
+  residual : Wrote (signed (start second .args .residual)) (second .write-bytes .result) (second .write-bytes .last .1 .1 .0) (f .write-signed .result) (f .write-signed .last .1 .1 .0)
+  residual = rw (toZ-ofZ {w = w64} (start second .fits .residual)) at (f .write-signed .ensures)
+
+  rest : Rooms (labelled (ascii " reach ") (start second .args .reach) ∷ line-feed ∷ []) (f .write-signed .result) (f .write-signed .last .1 .1 .0)
+  rest = room-after (left second) residual
+
+slice-aggregate-write-labelled : tie.Need-slice-aggregate-write-labelled
+slice-aggregate-write-labelled c = search needs
+
+write-labelled-requires : tie.Need-write-labelled-requires
+write-labelled-requires c κs = room-here (room (c .before .before .before))
+
+slice-aggregate-write-bytes : tie.Need-slice-aggregate-write-bytes
+slice-aggregate-write-bytes c = search needs
+
+write-bytes-requires : tie.Need-write-bytes-requires
+write-bytes-requires c κs =
+    let l = c .before .before .before .before in
+    room-here (room-after (room (l .before .before .before .before)) (l .write-labelled .ensures))
+
+write-signed-requires : tie.Need-write-signed-requires
+write-signed-requires c κs =
+    let b = c .before .before .before in
+    rw (toZ-ofZ {w = w64} (start b .fits .residual)) (room-here (left b))
+
+slice-aggregate-write-labelled-2 : tie.Need-slice-aggregate-write-labelled-2
+slice-aggregate-write-labelled-2 c = search needs
+
+write-labelled-requires-2 : tie.Need-write-labelled-requires-2
+write-labelled-requires-2 c κs = room-here (rest (c .before .before .before .before))
+
+slice-aggregate-write-bytes-2 : tie.Need-slice-aggregate-write-bytes-2
+slice-aggregate-write-bytes-2 c = search needs
+
+write-bytes-requires-2 : tie.Need-write-bytes-requires-2
+write-bytes-requires-2 c κs =
+    let l = c .before .before .before .before in
+    room-here (room-after (rest (l .before .before .before .before .before)) (l .write-labelled2 .ensures))
+
+same-length : tie.Need-same-length
+same-length c = search needs
+
+returns : tie.Need-returns
+unfolding row-line
+returns c =
+    let e = c .before .before in
+    let l = e .before .before .before .before .before in
+    let f = l .before .before .before .before .before in
+    let b = second f in
+    let r = room (start b) in
+    let w =
+    wrote-first r (first b .write-labelled .ensures)
+    (wrote-first (room-after r (first b .write-labelled .ensures)) (b .write-bytes .ensures)
+    (wrote-first (left b) (residual f)
+    (wrote-first (rest f) (l .write-labelled2 .ensures) (wrote-last (e .write-bytes2 .ensures))))) in
+    record { short = short (start b); wrote = w .whole }
+
+pub write-row-line-spec : {M : Type 1} → statement M
+write-row-line-spec =
+    tie.close
+    (tie.spec
+    slice-aggregate-write-labelled
+    write-labelled-requires
+    slice-aggregate-write-bytes
+    write-bytes-requires
+    write-signed-requires
+    slice-aggregate-write-labelled-2
+    write-labelled-requires-2
+    slice-aggregate-write-bytes-2
+    write-bytes-requires-2
+    same-length
+    returns)

@@ -1,0 +1,75 @@
+-- `report::write_text` meets its contract: the verdict, the answers, the rows and the factor, one after another.
+-- Assumes nothing.
+use Prim.Native.Nat.{_+_, _*_, _≤_}
+use native.Mathlib.Omega.{arith}
+use lib.ListN.{length}
+use borrow.Author.Needs.{needs}
+use Rattle.decimal.specs.BufferLaws.{wrote-then, wrote-last}
+use Rattle.report.specs.Text.{text, answer-room, row-room, factor-room}
+use Rattle.report.proofs.write_text.Statement.{statement}
+use Rattle.report.proofs.write_text.Tie as tie
+
+module _ (v : tie.After-write-verdict-line) where
+  abbrev start : tie.Start
+  start = v .before .before .before .before .before
+
+  after-verdict : v .write-verdict-line .result + (8 * answer-room + (8 * row-room + factor-room)) ≤ length (v .write-verdict-line .last .1 .1 .1 .1 .0)
+  after-verdict =
+      omega (arith, v .write-verdict-line .ensures .short, v .write-verdict-line .ensures .wrote .place, v .write-verdict-line .kept, start .pre .1 .1)
+
+module _ (a : tie.After-write-answers) where
+  abbrev verdict : tie.After-write-verdict-line
+  verdict = a .before .before .before .before
+
+  after-answers : a .write-answers .result + (8 * row-room + factor-room) ≤ length (a .write-answers .last .1 .1 .1 .1 .0)
+  after-answers =
+      omega (arith, a .write-answers .ensures .short, a .write-answers .ensures .wrote .place, a .write-answers .kept, start verdict .pre .0, after-verdict verdict)
+
+module _ (r : tie.After-write-rows) where
+  abbrev answers : tie.After-write-answers
+  answers = r .before .before .before .before .before .before
+
+  after-rows : r .write-rows .result + factor-room ≤ length (r .write-rows .last .1 .1 .1 .1 .0)
+  after-rows =
+      omega (arith, r .write-rows .ensures .short, r .write-rows .ensures .wrote .place, r .write-rows .kept, start (verdict answers) .pre .0, after-answers answers)
+
+write-verdict-line-requires : tie.Need-write-verdict-line-requires
+write-verdict-line-requires c κs = omega (arith, c .before .before .before .before .pre .1 .1)
+
+write-answers-requires : tie.Need-write-answers-requires
+write-answers-requires c κs =
+    let v = c .before .before .before in
+    (start v .pre .0, (start v .pre .1 .0, omega (arith, after-verdict v, start v .pre .0)))
+
+write-rows-requires : tie.Need-write-rows-requires
+write-rows-requires c κs =
+    let a = c .before .before .before .before .before in
+    (start (verdict a) .pre .0, omega (arith, after-answers a, start (verdict a) .pre .0))
+
+write-factor-line-requires : tie.Need-write-factor-line-requires
+write-factor-line-requires c κs = after-rows (c .before .before .before)
+
+same-length : tie.Need-same-length
+same-length c = search needs
+
+returns : tie.Need-returns
+unfolding text
+returns c =
+    let r = c .before .before .before .before .before .before in
+    let a = answers r in
+    let v = verdict a in
+    wrote-then (omega arith) (v .write-verdict-line .ensures .wrote)
+    (wrote-then (omega (arith, after-verdict v)) (a .write-answers .ensures .wrote)
+    (wrote-then (omega (arith, after-answers a)) (r .write-rows .ensures .wrote)
+    (wrote-last (c .before .before .write-factor-line .ensures .wrote) .whole)))
+
+pub write-text-spec : {M : Type 1} → statement M
+write-text-spec =
+    tie.close
+    (tie.spec
+    write-verdict-line-requires
+    write-answers-requires
+    write-rows-requires
+    write-factor-line-requires
+    same-length
+    returns)

@@ -1,0 +1,77 @@
+-- `report::write_verdict_line` meets its contract: three texts, one after another.
+-- Assumes nothing.
+use mathlib.Core.List.{[], _∷_}
+use Prim.Native.Nat.{_≤_}
+use native.Mathlib.Nat.{lt-of-lt-of-le}
+use native.Mathlib.Omega.{arith}
+use lib.Dec.{lit≤}
+use lib.ListN.{length}
+use denote.Ref.{now}
+use borrow.Author.Needs.{needs}
+use Rattle.decimal.specs.Buffer.{ascii, Room}
+use Rattle.decimal.specs.BufferLaws.{Rooms, room-here, room-after, wrote-first, wrote-last}
+use Rattle.report.specs.Text.{labelled, verdict-word, verdict-line, line-feed, verdict-room}
+use Rattle.report.specs.TextLaws.{length-verdict-line}
+use Rattle.report.proofs.write_verdict_line.Statement.{statement}
+use Rattle.report.proofs.write_verdict_line.Tie as tie
+
+short : (s : tie.Start) → length (verdict-line (s .args .met) (s .args .row) (s .args .rounds)) ≤ verdict-room
+short s =
+    length-verdict-line (s .args .met) (s .args .row) (s .args .rounds)
+    (lt-of-lt-of-le (s .fits .row .fits) (lit≤ tt))
+    (lt-of-lt-of-le (s .fits .rounds .fits) (lit≤ tt))
+
+whole-room : (s : tie.Start) → Room (verdict-line (s .args .met) (s .args .row) (s .args .rounds)) (s .args .at) (now (s .args .out))
+whole-room s = record { room = omega (arith, short s, s .pre) }
+
+room : (s : tie.Start) → Rooms (labelled (verdict-word (s .args .met)) (s .args .row) ∷ labelled (ascii " rounds ") (s .args .rounds) ∷ line-feed ∷ []) (s .args .at) (now (s .args .out))
+unfolding verdict-line
+room s = record { whole = whole-room s }
+
+write-verdict-requires : tie.Need-write-verdict-requires
+write-verdict-requires c κs = room-here (room (c .before .before))
+
+slice-aggregate-write-labelled : tie.Need-slice-aggregate-write-labelled
+slice-aggregate-write-labelled c = search needs
+
+write-labelled-requires : tie.Need-write-labelled-requires
+write-labelled-requires c κs =
+    let v = c .before .before .before .before in
+    room-here (room-after (room (v .before .before .before)) (v .write-verdict .ensures))
+
+slice-aggregate-write-bytes : tie.Need-slice-aggregate-write-bytes
+slice-aggregate-write-bytes c = search needs
+
+write-bytes-requires : tie.Need-write-bytes-requires
+write-bytes-requires c κs =
+    let l = c .before .before .before .before in
+    let v = l .before .before .before .before .before in
+    room-here (room-after (room-after (room (v .before .before .before)) (v .write-verdict .ensures)) (l .write-labelled .ensures))
+
+same-length : tie.Need-same-length
+same-length c = search needs
+
+returns : tie.Need-returns
+unfolding verdict-line
+returns c =
+    let b = c .before .before in
+    let l = b .before .before .before .before .before in
+    let v = l .before .before .before .before .before in
+    let s = v .before .before .before in
+    let r = room s in
+    let w =
+    wrote-first r (v .write-verdict .ensures)
+    (wrote-first (room-after r (v .write-verdict .ensures)) (l .write-labelled .ensures) (wrote-last (b .write-bytes .ensures))) in
+    record { short = short s; wrote = w .whole }
+
+pub write-verdict-line-spec : {M : Type 1} → statement M
+write-verdict-line-spec =
+    tie.close
+    (tie.spec
+    write-verdict-requires
+    slice-aggregate-write-labelled
+    write-labelled-requires
+    slice-aggregate-write-bytes
+    write-bytes-requires
+    same-length
+    returns)

@@ -1,0 +1,36 @@
+-- Document 01's printed example and the other forms, by computation on the definitions. Nothing is exported. Assumes nothing.
+use mathlib.Core.Path.{_≡_, refl}
+use mathlib.Core.Bool.{true, false}
+use mathlib.Core.List.{[], _∷_, _++_}
+use lib.IntN.{pos, negsuc, negℤ}
+use Rattle.decimal.specs.Buffer.{ascii}
+use Rattle.decimal.specs.Decimal.{digits-within, digits, last-digits, signed, fixed-point}
+use Rattle.judge.specs.declared.Judgement.{Judgement}
+use Rattle.report.specs.Text.{report, text, refusal-text, verdict-line, answer-line, row-line, factor-line}
+
+-- "For the case .. it prints": n 1, e 1, one round, Y −4, met, R 0, T 0
+met-case : Judgement
+met-case = record { met = true; unmet = 0; none = false; decides = 1; residuals = pos 0 ∷ []; reaches = 0 ∷ [] }
+
+printed-example : text (report 1 1 1 (negsuc 3 ∷ []) met-case)
+    ≡ ascii "met row 0 rounds 1\nanswer 1 -0.4\nrow 1 residual 0 reach 0\nfactor row 1\n"
+unfolding digits-within digits last-digits signed fixed-point verdict-line answer-line row-line factor-line text met-case
+printed-example = refl
+
+-- two tanks, e 0: the second row is not met and has no factor
+unmet-case : Judgement
+unmet-case = record { met = false; unmet = 2; none = true; decides = 1; residuals = negsuc 6 ∷ pos 12 ∷ []; reaches = 0 ∷ 9 ∷ [] }
+
+other-forms : text (report 2 0 8 (pos 0 ∷ negℤ (pos 10000000) ∷ []) unmet-case)
+    ≡ ascii "unmet row 2 rounds 8\nanswer 1 0\nanswer 2 -10000000\nrow 1 residual -7 reach 0\nrow 2 residual 12 reach 9\nfactor none row 1\n"
+unfolding digits-within digits last-digits signed fixed-point verdict-line answer-line row-line factor-line text unmet-case
+other-forms = refl
+
+-- e 3
+three-digits : answer-line 3 1 (pos 5) ++ answer-line 3 2 (negℤ (pos 10000000)) ≡ ascii "answer 1 0.005\nanswer 2 -10000.000\n"
+unfolding digits-within digits last-digits fixed-point answer-line
+three-digits = refl
+
+refused : refusal-text 6 ≡ ascii "refused 6\n"
+unfolding digits-within digits refusal-text
+refused = refl

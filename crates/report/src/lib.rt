@@ -1,0 +1,185 @@
+// The printed verdict: the lines of a judged case, or of a refusal, as bytes in a buffer.
+use decimal::write_bytes;
+use decimal::write_fixed_point;
+use decimal::write_signed;
+use decimal::write_unsigned;
+use judge::Judgement;
+ghost use mathlib.Core.Path.{_≡_};
+ghost use Prim.Native.Nat.{_+_, _*_, _≤_, _<_};
+ghost use lib.ListN.{length, getD};
+ghost use lib.IntN.{pos};
+ghost use Rattle.decimal.specs.Buffer.{Room, Wrote};
+ghost use Rattle.report.specs.Text.{report, labelled, «verdict-word», «verdict-line», «answer-line», «row-line», «factor-word», «factor-line», «answer-lines», «row-lines», «verdict-room», «answer-room», «row-room», «factor-room», «text-room», text, printed, «printed-refusal», Printed};
+ghost use Rattle.report.specs.Lines.{WroteWithin};
+
+// A buffer of this many bytes is enough for every report.
+pub const TEXT_ROOM: usize = 800;
+
+// And for every refusal.
+pub const REFUSAL_ROOM: usize = 12;
+
+// A word and a whole number behind it.
+fn write_labelled(word: &[u8], x: u64, at: usize, out: &mut [u8]) -> usize
+    requires { ⌜ Room (labelled (now word) x) at (now out) ⌝ }
+    ensures { λ r. ⌜ Wrote (labelled (now (word .entry)) x) at (now (out .entry)) r (now (out .exit)) ⌝ }
+{
+    let next = write_bytes(word, at, out);
+    write_unsigned(x, next, out)
+}
+
+fn write_verdict(met: bool, row: u64, at: usize, out: &mut [u8]) -> usize
+    requires { ⌜ Room (labelled (verdict-word met) row) at (now out) ⌝ }
+    ensures { λ r. ⌜ Wrote (labelled (verdict-word met) row) at (now (out .entry)) r (now (out .exit)) ⌝ }
+{
+    if met {
+        return write_labelled(b"met row ", row, at, out);
+    }
+    write_labelled(b"unmet row ", row, at, out)
+}
+
+// The verdict, the first unmet row or 0, and the rounds used.
+fn write_verdict_line(met: bool, row: u64, rounds: u64, at: usize, out: &mut [u8]) -> usize
+    requires { ⌜ at + verdict-room ≤ length (now out) ⌝ }
+    ensures { λ r. ⌜ WroteWithin verdict-room (verdict-line met row rounds) at (now (out .entry)) r (now (out .exit)) ⌝ }
+{
+    let after_row = write_verdict(met, row, at, out);
+    let after_rounds = write_labelled(b" rounds ", rounds, after_row, out);
+    write_bytes(b"\n", after_rounds, out)
+}
+
+// A tank's answer.
+fn write_answer_line(e: usize, tank: u64, figure: i32, at: usize, out: &mut [u8]) -> usize
+    requires { ⌜ (e < 4) × ((tank < 10) × (at + answer-room ≤ length (now out))) ⌝ }
+    ensures { λ r. ⌜ WroteWithin answer-room (answer-line e tank figure) at (now (out .entry)) r (now (out .exit)) ⌝ }
+{
+    let after_tank = write_labelled(b"answer ", tank, at, out);
+    let after_space = write_bytes(b" ", after_tank, out);
+    let after_figure = write_fixed_point(figure as i64, e, after_space, out);
+    write_bytes(b"\n", after_figure, out)
+}
+
+// A row's residual and reach.
+fn write_row_line(row: u64, residual: i64, reach: u64, at: usize, out: &mut [u8]) -> usize
+    requires { ⌜ (row < 10) × (at + row-room ≤ length (now out)) ⌝ }
+    ensures { λ r. ⌜ WroteWithin row-room (row-line row residual reach) at (now (out .entry)) r (now (out .exit)) ⌝ }
+{
+    let after_row = write_labelled(b"row ", row, at, out);
+    let after_word = write_bytes(b" residual ", after_row, out);
+    let after_residual = write_signed(residual, after_word, out);
+    let after_reach = write_labelled(b" reach ", reach, after_residual, out);
+    write_bytes(b"\n", after_reach, out)
+}
+
+fn write_factor(none: bool, row: u64, at: usize, out: &mut [u8]) -> usize
+    requires { ⌜ Room (labelled (factor-word none) row) at (now out) ⌝ }
+    ensures { λ r. ⌜ Wrote (labelled (factor-word none) row) at (now (out .entry)) r (now (out .exit)) ⌝ }
+{
+    if none {
+        return write_labelled(b"factor none row ", row, at, out);
+    }
+    write_labelled(b"factor row ", row, at, out)
+}
+
+// The row that decides, and whether it has a factor.
+fn write_factor_line(none: bool, row: u64, at: usize, out: &mut [u8]) -> usize
+    requires { ⌜ at + factor-room ≤ length (now out) ⌝ }
+    ensures { λ r. ⌜ WroteWithin factor-room (factor-line none row) at (now (out .entry)) r (now (out .exit)) ⌝ }
+{
+    let after_row = write_factor(none, row, at, out);
+    write_bytes(b"\n", after_row, out)
+}
+
+// Every row's residual and reach.
+fn write_rows<'a>(
+    n: usize,
+    residuals: &'a [i64; 8],
+    reaches: &'a [u64; 8],
+    at: usize,
+    out: &mut [u8],
+) -> usize
+    requires { ⌜ (n ≤ 8) × (at + n * row-room ≤ length (now out)) ⌝ }
+    ensures { λ r. ⌜ WroteWithin (n * row-room) (row-lines n (λ i. getD (now (residuals .entry)) i (pos 0)) (λ i. getD (now (reaches .entry)) i 0)) at (now (out .entry)) r (now (out .exit)) ⌝ }
+{
+    let mut i = 0;
+    let mut next = at;
+    while i < n {
+        next = write_row_line((i + 1) as u64, residuals[i], reaches[i], next, out);
+        i += 1;
+    }
+    next
+}
+
+// Every tank's answer.
+fn write_answers(n: usize, e: usize, answer: &[i32; 8], at: usize, out: &mut [u8]) -> usize
+    requires { ⌜ (n ≤ 8) × ((e < 4) × (at + n * answer-room ≤ length (now out))) ⌝ }
+    ensures { λ r. ⌜ WroteWithin (n * answer-room) (answer-lines n e (λ j. getD (now (answer .entry)) j (pos 0))) at (now (out .entry)) r (now (out .exit)) ⌝ }
+{
+    let mut j = 0;
+    let mut next = at;
+    while j < n {
+        next = write_answer_line(e, (j + 1) as u64, answer[j], next, out);
+        j += 1;
+    }
+    next
+}
+
+// The whole text of a judged case.
+fn write_text(
+    n: usize,
+    e: usize,
+    rounds: usize,
+    answer: &[i32; 8],
+    judgement: Judgement,
+    out: &mut [u8],
+) -> usize
+    requires { ⌜ (n ≤ 8) × ((e < 4) × (text-room ≤ length (now out))) ⌝ }
+    ensures { λ r. ⌜ Wrote (text (report n e rounds (now (answer .entry)) judgement)) 0 (now (out .entry)) r (now (out .exit)) ⌝ }
+{
+    let residuals = judgement.residuals;
+    let reaches = judgement.reaches;
+    let after_verdict = write_verdict_line(
+        judgement.met,
+        judgement.unmet as u64,
+        rounds as u64,
+        0,
+        out,
+    );
+    let after_answers = write_answers(n, e, answer, after_verdict, out);
+    let after_rows = write_rows(n, &residuals, &reaches, after_answers, out);
+    write_factor_line(judgement.none, judgement.decides as u64, after_rows, out)
+}
+
+// Prints a judged case: its verdict and rounds used, every tank's answer, every row, the factor. The text stands at the front of out, the
+// rest of out is as it was, and the text's length is returned. It is empty where n is above 8, e above 3, or out shorter than TEXT_ROOM.
+pub fn render(
+    n: usize,
+    e: usize,
+    rounds: usize,
+    answer: &[i32; 8],
+    judgement: Judgement,
+    out: &mut [u8],
+) -> usize
+    ensures { λ r. ⌜ Printed (printed (length (now (out .entry))) (report n e rounds (now (answer .entry)) judgement)) (now (out .entry)) r (now (out .exit)) ⌝ }
+{
+    if 8 < n {
+        return 0;
+    }
+    if 3 < e {
+        return 0;
+    }
+    if out.len() < TEXT_ROOM {
+        return 0;
+    }
+    write_text(n, e, rounds, answer, judgement, out)
+}
+
+// Prints a refusal, in the same way. The text is empty where out is shorter than REFUSAL_ROOM.
+pub fn render_refusal(number: u8, out: &mut [u8]) -> usize
+    ensures { λ r. ⌜ Printed (printed-refusal (length (now (out .entry))) number) (now (out .entry)) r (now (out .exit)) ⌝ }
+{
+    if out.len() < REFUSAL_ROOM {
+        return 0;
+    }
+    let after_number = write_labelled(b"refused ", number as u64, 0, out);
+    write_bytes(b"\n", after_number, out)
+}

@@ -1,0 +1,99 @@
+// The reader of the rows of a case.
+ghost use mathlib.Core.Path.{_≡_};
+ghost use Prim.Native.Nat.{_≤_};
+ghost use lib.ListN.{length, drop};
+ghost use Rattle.row_reader.specs.Read.{RowHere, FiguresRead, RowRoom, RowRead, RowsRoom, RowsRead};
+use fields::HEADER_SIZE;
+use outcome::Refusal;
+use outcome::Status;
+
+// A row's figures from a place of s on, into the four lists, which have the row's counts; whether all are within their limits.
+fn read_figures(
+    s: &[u8],
+    at: usize,
+    a: &mut [i16],
+    t: &mut [u16],
+    b: &mut [i32],
+    f: &mut [u32],
+) -> bool
+    requires { ⌜ RowHere (now s) at (now a) (now t) (now b) (now f) ⌝ }
+    ensures { λ r. ⌜ FiguresRead (length (now (a .entry))) (drop at (now (s .entry))) r (now (a .exit)) (now (t .exit)) (now (b .exit)) (now (f .exit)) ⌝ }
+{
+    let tolerances = at + 2 * a.len();
+    let right_side = tolerances + 2 * a.len();
+    let right_tolerance = right_side + 4;
+    if !figures::read_i16s(s, at, casefile::COEFFICIENT_LIMIT, a) {
+        return false;
+    }
+    if !figures::read_u16s(s, tolerances, casefile::TOLERANCE_LIMIT, t) {
+        return false;
+    }
+    if !figures::read_i32s(s, right_side, casefile::RIGHT_SIDE_LIMIT, b) {
+        return false;
+    }
+    figures::read_u32s(s, right_tolerance, casefile::RIGHT_TOLERANCE_LIMIT, f)
+}
+
+// A row's field at a place of s, its figures into the four lists.
+fn read_row(
+    s: &[u8],
+    at: usize,
+    n: usize,
+    a: &mut [i16],
+    t: &mut [u16],
+    b: &mut [i32],
+    f: &mut [u32],
+) -> Status
+    requires { ⌜ RowRoom n (now a) (now t) (now b) (now f) ⌝ }
+    ensures { λ r. ⌜ RowRead n (drop at (now (s .entry))) r (now (a .exit)) (now (t .exit)) (now (b .exit)) (now (f .exit)) ⌝ }
+{
+    let field = fields::check_field(s, at, casefile::ROW_TAG, 4 * n + 8);
+    if let Status::Refused(_) = field {
+        return field;
+    }
+    if read_figures(s, at + HEADER_SIZE, a, t, b, f) {
+        Status::Accepted
+    } else {
+        Status::Refused(Refusal::OutsideLimits)
+    }
+}
+
+// The fields of n rows from a place of s on: the first refusal, or none and their figures over the fronts of the four lists.
+// After a refusal what the lists hold is left open.
+pub fn read_rows(
+    s: &[u8],
+    at: usize,
+    n: usize,
+    a: &mut [i16],
+    t: &mut [u16],
+    b: &mut [i32],
+    f: &mut [u32],
+) -> Status
+    requires { ⌜ at ≤ length (now s) ⌝ }
+    requires { ⌜ RowsRoom n (now a) (now t) (now b) (now f) ⌝ }
+    ensures { λ r. ⌜ RowsRead n (drop at (now (s .entry))) r (now (a .entry)) (now (a .exit)) (now (t .entry)) (now (t .exit)) (now (b .entry)) (now (b .exit)) (now (f .entry)) (now (f .exit)) ⌝ }
+{
+    let mut i = 0;
+    let mut from = 0;
+    let mut p = at;
+    while i < n {
+        let to = from + n;
+        let next = i + 1;
+        let row = read_row(
+            s,
+            p,
+            n,
+            &mut a[from..to],
+            &mut t[from..to],
+            &mut b[i..next],
+            &mut f[i..next],
+        );
+        if let Status::Refused(_) = row {
+            return row;
+        }
+        i = next;
+        from = to;
+        p += HEADER_SIZE + (4 * n + 8);
+    }
+    Status::Accepted
+}

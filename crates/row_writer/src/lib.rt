@@ -1,0 +1,46 @@
+// The writer of the rows of a case.
+ghost use mathlib.Core.Path.{_≡_};
+ghost use Rattle.bigendian.specs.Number.{onto};
+ghost use Rattle.casefile.specs.Layout.{joined, rowField, split};
+ghost use Rattle.row_writer.specs.Room.{RowRoom, rowMade, RowsRoom};
+use fields::HEADER_SIZE;
+
+// A row's field, over the front of out.
+fn write_row(out: &mut [u8], a: &[i16], t: &[u16], b: &[i32], f: &[u32])
+    requires { ⌜ RowRoom (now out) (now a) (now t) (now b) (now f) ⌝ }
+    ensures { λ _. ⌜ now (out .exit) ≡ onto (rowField (rowMade (now (a .entry)) (now (t .entry)) (now (b .entry)) (now (f .entry)))) (now (out .entry)) ⌝ }
+{
+    let n = a.len();
+    let tolerances = HEADER_SIZE + 2 * n;
+    let right_side = tolerances + 2 * n;
+    let right_tolerance = right_side + 4;
+    fields::write_header(out, casefile::ROW_TAG, (4 * n + 8) as u16);
+    figures::write_i16s(&mut out[HEADER_SIZE..], a);
+    figures::write_u16s(&mut out[tolerances..], t);
+    figures::write_i32s(&mut out[right_side..], b);
+    figures::write_u32s(&mut out[right_tolerance..], f);
+}
+
+// The fields of n rows, over the front of out.
+pub fn write_rows(out: &mut [u8], n: usize, a: &[i16], t: &[u16], b: &[i32], f: &[u32])
+    requires { ⌜ RowsRoom (now out) n (now a) (now t) (now b) (now f) ⌝ }
+    ensures { λ _. ⌜ now (out .exit) ≡ onto (joined rowField (split n n (now (a .entry)) (now (t .entry)) (now (b .entry)) (now (f .entry)))) (now (out .entry)) ⌝ }
+{
+    let mut i = 0;
+    let mut from = 0;
+    let mut p = 0;
+    while i < n {
+        let to = from + n;
+        let next = i + 1;
+        write_row(
+            &mut out[p..],
+            &a[from..to],
+            &t[from..to],
+            &b[i..next],
+            &f[i..next],
+        );
+        i = next;
+        from = to;
+        p += HEADER_SIZE + (4 * n + 8);
+    }
+}

@@ -1,0 +1,20 @@
+-- `solver::answered` meets its contract: the test of the limits gives the status.
+-- Assumes nothing.
+use borrow.Author.Needs.{needs}
+use Rattle.solver.proofs.answered.Statement.{statement}
+use Rattle.solver.proofs.answered.Tie as tie
+
+kept-requires : tie.Need-kept-requires
+kept-requires c κs = search needs
+
+kept-requires-2 : tie.Need-kept-requires-2
+kept-requires-2 c κs = search needs
+
+returns : tie.Need-returns
+returns c = rw (c .before .if1 .taken) (c .kept .ensures)
+
+returns-2 : tie.Need-returns-2
+returns-2 c = rw (c .before .if1 .left) (c .kept2 .ensures)
+
+pub answered-spec : {M : Type 1} → statement M
+answered-spec = tie.close (tie.spec kept-requires kept-requires-2 returns returns-2)

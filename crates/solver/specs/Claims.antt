@@ -1,0 +1,34 @@
+-- What is claimed of every solution, in the words of its laws. Definitions only. Assumes nothing.
+use mathlib.Core.Path.{_≡_}
+use mathlib.Core.Bool.{true}
+use Prim.Native.Nat.{ℕ, _+_, _<_, _≤_}
+use Rattle.elimination.specs.Matrix.{Within}
+use Rattle.elimination.specs.Claims.{ZeroColumn}
+use Rattle.judge.specs.System.{System, trial}
+use Rattle.judge.specs.Judgement.{judgement}
+use Rattle.solver.specs.declared.Progress.{Progress}
+use Rattle.solver.specs.declared.Solution.{Solution}
+use Rattle.solver.specs.Refinement.{figure-limit}
+
+-- the kept trial is within ±10,000,000, and the judgement beside it is its own: the same as for a trial that a case brings
+pub record Answer (s : System) (D : ℕ) (r : Solution) : Type 0 where
+  pub figures : Within figure-limit (r .trial)
+  pub judgement-is : r .judgement ≡ judgement s (trial (s .n) D (r .trial))
+
+-- rounds used are 1 to K, and where they are fewer than K the answer is met, by the judge's verdict
+pub record Rounds (K : ℕ) (r : Solution) : Type 0 where
+  pub some : 1 ≤ r .rounds
+  pub few : r .rounds ≤ K
+  pub early : r .rounds < K → r .judgement .met ≡ true
+
+-- the same of m rounds from p to q, where the last of them stayed within its limits
+pub record Advanced (p : Progress) (m : ℕ) (q : Progress) : Type 0 where
+  pub more : p .rounds ≤ q .rounds
+  pub few : q .rounds ≤ p .rounds + m
+  pub some : q .within ≡ true → 0 < m → p .rounds < q .rounds
+  pub early : q .within ≡ true → q .rounds < p .rounds + m → q .judgement .met ≡ true
+
+-- the step, counted from 0, at which every candidate for the pivot is zero
+pub record Refused (s : System) : Type 0 where
+  pub step : ℕ
+  pub column : ZeroColumn (s .n) (s .coefficients) step

@@ -1,0 +1,84 @@
+-- Refinement over one elimination: document 01's "The steps", from "Y starts at zero" on. `w` holds the eliminated rows and `o` their order.
+-- Rows and tanks are counted from 0. Definitions only. Assumes nothing.
+use mathlib.Core.Bool.{Bool, true, false, cond, not, _||_}
+use mathlib.Core.List.{List}
+use Prim.Native.Nat.{ℕ, zero, suc, _+_}
+use lib.Dec.{leb}
+use lib.ListN.{getD, set}
+use lib.IntN.{ℤ, pos, natAbs, _+ℤ_}
+use Rattle.integers.specs.Tables.{table, filled}
+use Rattle.judge.specs.System.{System, Trial, trial}
+use Rattle.judge.specs.Judgement.{residuals, judgement}
+use Rattle.substitution.specs.declared.Corrections.{Corrections}
+use Rattle.substitution.specs.Passes.{forward, backward}
+use Rattle.solver.specs.declared.Update.{Update}
+use Rattle.solver.specs.declared.Progress.{Progress}
+
+-- ---- from the residuals to the corrections
+
+-- "the elimination's row order": place i of n holds the figure of the row that stands there
+abbrev pub permuted : ℕ → List ℕ → List ℤ → List ℤ
+permuted n o R = filled 8 n (pos 0) (λ i. getD R (getD o i 0) (pos 0))
+
+-- "The residual of each row is R = D × b − sum of A × Y. Put the residuals in the elimination's row order as z."
+abbrev pub ordered : List ℕ → System → Trial → List ℤ
+ordered o s t = permuted (s .n) o (residuals s t)
+
+-- from the top, and then from the bottom
+abbrev pub substituted : List (List ℤ) → List ℤ → ℕ → Corrections
+substituted w z n = backward w (forward w z n) n
+
+-- ---- "Then Y gains d, tank 1 first, each limit checked in turn."
+
+-- "trial figure Y: −10,000,000 to 10,000,000"
+abbrev pub figure-limit : ℕ
+figure-limit = 10000000
+
+abbrev pub gain : List ℤ → List ℤ → ℕ → ℤ
+gain Y d j = getD Y j (pos 0) +ℤ getD d j (pos 0)
+
+-- m figures from tank j on: the first that is outside its limit ends the update
+unfoldable pub gained-from : List ℤ → ℕ → ℕ → List ℤ → Update
+gained-from d j zero Y = record { within = true; trial = Y }
+gained-from d j (suc m) Y =
+    cond (leb (natAbs (gain Y d j)) figure-limit)
+    (gained-from d (j + 1) m (set Y j (gain Y d j)))
+    (record { within = false; trial = Y })
+
+-- where a correction is outside its limit, no figure gains anything
+abbrev pub gained : ℕ → List ℤ → Corrections → Update
+gained n Y d = cond (d .within) (gained-from (d .values) 0 n Y) (record { within = false; trial = Y })
+
+-- the next trial, not within its limits where the steps reach refusal 9
+unfoldable pub updated : List (List ℤ) → List ℕ → System → ℕ → List ℤ → Update
+updated w o s D Y = gained (s .n) Y (substituted w (ordered o s (trial (s .n) D Y)) (s .n))
+
+-- ---- rounds
+
+-- a trial after k rounds: "The new Y is judged."
+abbrev pub judged : System → ℕ → ℕ → List ℤ → Progress
+judged s D k Y = record { within = true; rounds = k; trial = Y; judgement = judgement s (trial (s .n) D Y) }
+
+-- "Y starts at zero."
+abbrev pub start : System → ℕ → Progress
+start s D = judged s D 0 (table 8 (λ _. pos 0))
+
+-- refusal 9: what stood before the round stays, with the mark
+abbrev pub refused : Progress → Progress
+refused p = record { within = false; rounds = p .rounds; trial = p .trial; judgement = p .judgement }
+
+abbrev pub advanced : System → ℕ → Progress → Update → Progress
+advanced s D p u = cond (u .within) (judged s D (suc (p .rounds)) (u .trial)) (refused p)
+
+-- "A round", document 01's term: from the residuals of the trial to the judgement of the next
+unfoldable pub round : List (List ℤ) → List ℕ → System → ℕ → Progress → Progress
+round w o s D p = advanced s D p (updated w o s D (p .trial))
+
+-- "The first that is met ends the work", and so does a refusal
+abbrev pub ended : Progress → Bool
+ended p = not (p .within) || p .judgement .met
+
+-- at most m rounds more: "after round K the last trial stands"
+unfoldable pub refined : List (List ℤ) → List ℕ → System → ℕ → ℕ → Progress → Progress
+refined w o s D zero p = p
+refined w o s D (suc m) p = cond (ended (round w o s D p)) (round w o s D p) (refined w o s D m (round w o s D p))

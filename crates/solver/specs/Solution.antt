@@ -1,0 +1,43 @@
+-- The answer of a system, or the refusal: document 01's "The steps" as a whole. Definitions only. Assumes nothing.
+use mathlib.Core.Bool.{cond}
+use Prim.Native.Nat.{ℕ}
+use Rattle.judge.specs.System.{System}
+use Rattle.elimination.specs.declared.Elimination.{Elimination}
+use Rattle.elimination.specs.declared.Elimination.the-variants.{Complete, ZeroPivot as Stopped}
+use Rattle.elimination.specs.Steps.{Run, eliminated}
+use Rattle.elimination.specs.Outcome.{outcome}
+use Rattle.solver.specs.declared.Progress.{Progress}
+use Rattle.solver.specs.declared.Solution.{Solution}
+use Rattle.solver.specs.declared.Status.{Status}
+use Rattle.solver.specs.declared.Status.the-variants.{Answered, ZeroPivot, OutsideRange}
+use Rattle.solver.specs.Refinement.{start, refined}
+
+-- document 01's numbers: 8, "At some step of the elimination every candidate for the pivot is zero", and 9, "A correction is outside
+-- ±20,000,000, or a new answer figure is outside ±10,000,000, whichever the steps reach first"; 0 for none
+abbrev pub refusal : Status → ℕ
+refusal Answered = 0
+refusal ZeroPivot = 8
+refusal OutsideRange = 9
+
+-- Which trial is kept is chosen here alone: the last, be it the first that is met or the one after round K.
+abbrev pub kept : Status → Progress → Solution
+kept t p = record { status = t; rounds = p .rounds; trial = p .trial; judgement = p .judgement }
+
+abbrev pub answered : Progress → Solution
+answered p = kept (cond (p .within) Answered OutsideRange) p
+
+-- "Refusals 8 and 9 come only when .. K is at least 1": the rounds are made where the elimination is complete, and refusal 8 where it is not
+abbrev pub by-elimination : Elimination → Solution → Solution → Solution
+by-elimination Complete a b = a
+by-elimination (Stopped k) a b = b
+
+-- over one elimination, which others may share
+abbrev pub solved : Run → System → ℕ → ℕ → Solution
+solved r s D K =
+    by-elimination (outcome (s .n) (r .steps))
+    (answered (refined (r .rows) (r .order) s D K (start s D)))
+    (kept ZeroPivot (start s D))
+
+-- the solution of a system over the scale D, in at most K rounds
+unfoldable pub solution : System → ℕ → ℕ → Solution
+solution s D K = solved (eliminated (s .n) (s .coefficients)) s D K

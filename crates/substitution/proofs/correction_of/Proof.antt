@@ -1,0 +1,100 @@
+-- `substitution::correction_of` meets its contract: the numerator, with the sum above the diagonal, does not wrap.
+-- Assumes nothing.
+use mathlib.Core.Path.{_≡_, _∙_}
+use mathlib.Core.List.{List}
+use Prim.Native.Nat.{ℕ}
+use native.Mathlib.Omega.{arith}
+use lib.ListN.{getD}
+use lib.IntN.{ℤ, pos, _-ℤ_, _*ℤ_}
+use mir.Syntax.{w64}
+use mir.Val.{SFits, toZ, ofZ}
+use mir.Facts.{toZ-ofZ}
+use Rattle.integers.specs.Size.{sfits-size}
+use Rattle.rounding.specs.Laws.{defined}
+use Rattle.substitution.specs.Passes.{sum-above, correction}
+use Rattle.substitution.specs.Bounds.{Correctable}
+use Rattle.substitution.specs.BackwardLaws.{scaled-le, numerator-small, working-fits}
+use borrow.Author.Needs.{needs}
+use Rattle.substitution.proofs.correction_of.Statement.{statement}
+use Rattle.substitution.proofs.correction_of.Tie as tie
+
+-- after the sum: the row, the entry, the corrections, and the places
+module _ (c : tie.After-sum-above) where
+  abbrev row′ : List ℤ
+  row′ = c .before .args .row .now
+
+  abbrev z′ : ℤ
+  z′ = c .before .args .z
+
+  abbrev d′ : List ℤ
+  d′ = c .before .args .d .now
+
+  abbrev i′ : ℕ
+  i′ = c .before .args .i
+
+  abbrev n′ : ℕ
+  n′ = c .before .args .n
+
+  ready : Correctable row′ z′ d′ i′ n′
+  ready = c .before .pre
+
+  scaled : SFits w64 (pos 256 *ℤ z′)
+  scaled = sfits-size (omega (arith, scaled-le row′ z′ d′ i′ n′ ready))
+
+  numerator : SFits w64 (pos 256 *ℤ z′ -ℤ sum-above row′ d′ i′ n′)
+  numerator = sfits-size (numerator-small row′ z′ d′ i′ n′ ready)
+
+  read-z : toZ w64 (ofZ w64 z′) ≡ z′
+  read-z = toZ-ofZ (c .before .fits .z)
+
+  read-scaled : toZ w64 (ofZ w64 (pos 256 *ℤ z′)) ≡ pos 256 *ℤ z′
+  read-scaled = toZ-ofZ scaled
+
+  read-sum : toZ w64 (ofZ w64 (c .sum-above .result)) ≡ sum-above row′ d′ i′ n′
+  read-sum = toZ-ofZ {w = w64} (record { sfits = c .sum-above .ok }) ∙ c .sum-above .ensures
+
+  read-numerator : toZ w64 (ofZ w64 (pos 256 *ℤ z′ -ℤ sum-above row′ d′ i′ n′)) ≡ pos 256 *ℤ z′ -ℤ sum-above row′ d′ i′ n′
+  read-numerator = toZ-ofZ numerator
+
+  read-pivot : toZ w64 (ofZ w64 (getD row′ i′ (pos 0))) ≡ getD row′ i′ (pos 0)
+  read-pivot = toZ-ofZ (working-fits row′ d′ i′ n′ (ready .summable) i′)
+
+sum-above-requires : tie.Need-sum-above-requires
+sum-above-requires c κs = search needs
+
+mul-rounded-quotient : tie.Need-mul-rounded-quotient
+mul-rounded-quotient c = rw (read-z c) (scaled c)
+
+sub-rounded-quotient : tie.Need-sub-rounded-quotient
+sub-rounded-quotient c = rw (read-z c, read-scaled c, read-sum c) (numerator c)
+
+mul-rounded-quotient-2 : tie.Need-mul-rounded-quotient-2
+mul-rounded-quotient-2 c = search needs
+
+element-copy-out-rounded-quotient : tie.Need-element-copy-out-rounded-quotient
+element-copy-out-rounded-quotient c = search needs
+
+rounded-quotient-requires : tie.Need-rounded-quotient-requires
+rounded-quotient-requires c κs =
+    let d = c .before in
+    rw (read-z d, read-scaled d, read-sum d, read-numerator d, read-pivot d)
+    (defined _ (getD (row′ d) (i′ d) (pos 0)) (numerator-small (row′ d) (z′ d) (d′ d) (i′ d) (n′ d) (ready d)) (ready d .pivot))
+
+returns : tie.Need-returns
+unfolding correction
+returns c =
+    let d = c .before .before in
+    toZ-ofZ {w = w64} (record { sfits = c .rounded-quotient .ok })
+    ∙ rw (read-z d, read-scaled d, read-sum d, read-numerator d, read-pivot d) at (c .rounded-quotient .ensures)
+
+pub correction-of-spec : {M : Type 1} → statement M
+correction-of-spec =
+    tie.close
+    (tie.spec
+    sum-above-requires
+    mul-rounded-quotient
+    sub-rounded-quotient
+    mul-rounded-quotient-2
+    element-copy-out-rounded-quotient
+    rounded-quotient-requires
+    returns)

@@ -1,0 +1,4 @@
+pub mod Passes
+pub mod Bounds
+pub mod ForwardLaws
+pub mod BackwardLaws

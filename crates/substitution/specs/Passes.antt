@@ -1,0 +1,66 @@
+-- Substitution with eliminated rows: the forward and the backward pass of document 01's "The steps". The multipliers M stand below the diagonal
+-- of W. Rows are counted from 0. Definitions only. Assumes nothing.
+use mathlib.Core.Bool.{true, false, cond}
+use mathlib.Core.List.{List, []}
+use Prim.Native.Nat.{ℕ, zero, suc, _+_, _-_}
+use lib.Dec.{leb}
+use lib.ListN.{getD, set}
+use lib.IntN.{ℤ, pos, natAbs, _-ℤ_, _*ℤ_}
+use Rattle.integers.specs.Sums.{sum}
+use Rattle.integers.specs.Tables.{table}
+use Rattle.rounding.specs.Round.{rnd}
+use Rattle.substitution.specs.declared.Corrections.{Corrections}
+
+-- ---- forward: "From the top, z(i) loses rnd(M(i,j) × z(j) / 16,384) for j = 1 to i − 1 in turn."
+
+-- what a row loses by its multiplier j
+abbrev pub loss : List ℤ → List ℤ → ℕ → ℤ
+loss row z j = rnd (getD row j (pos 0) *ℤ getD z j (pos 0)) (pos 16384)
+
+-- s after the losses by the first j multipliers
+abbrev pub reduced : List ℤ → List ℤ → ℤ → ℕ → ℤ
+reduced row z s zero = s
+reduced row z s (suc j) = reduced row z s j -ℤ loss row z j
+
+-- z with entry i reduced
+abbrev pub reduce-entry : List (List ℤ) → ℕ → List ℤ → List ℤ
+reduce-entry w i z = set z i (reduced (getD w i []) z (getD z i (pos 0)) i)
+
+-- the right-hand side z with its first i entries reduced, from the top
+unfoldable pub forward : List (List ℤ) → List ℤ → ℕ → List ℤ
+forward w z zero = z
+forward w z (suc i) = reduce-entry w i (forward w z i)
+
+-- ---- backward: "From the bottom, d(i) = rnd((256 × z(i) − sum over j above i of W(i,j) × d(j)) / W(i,i)), and its limit is checked as soon as
+-- it is formed."
+
+-- "A correction is outside ±20,000,000"
+abbrev pub correction-limit : ℕ
+correction-limit = 20000000
+
+-- the product of the row's entry and the correction, m places above i
+abbrev pub product-above : List ℤ → List ℤ → ℕ → ℕ → ℤ
+product-above row d i m = getD row (suc i + m) (pos 0) *ℤ getD d (suc i + m) (pos 0)
+
+-- the sum over j above i, of n columns
+abbrev pub sum-above : List ℤ → List ℤ → ℕ → ℕ → ℤ
+sum-above row d i n = sum (n - suc i) (product-above row d i)
+
+-- d(i), from the entry z of the right-hand side and the corrections above
+unfoldable pub correction : List ℤ → ℤ → List ℤ → ℕ → ℕ → ℤ
+correction row z d i n = rnd (pos 256 *ℤ z -ℤ sum-above row d i n) (getD row i (pos 0))
+
+abbrev pub correction-at : List (List ℤ) → List ℤ → ℕ → ℕ → List ℤ → ℤ
+correction-at w z n i d = correction (getD w i []) (getD z i (pos 0)) d i n
+
+-- with i corrections left to form: the first that is outside its limit ends the pass
+unfoldable pub backward-from : List (List ℤ) → List ℤ → ℕ → ℕ → List ℤ → Corrections
+backward-from w z n zero d = record { within = true; values = d }
+backward-from w z n (suc i) d =
+    cond (leb (natAbs (correction-at w z n i d)) correction-limit)
+    (backward-from w z n i (set d i (correction-at w z n i d)))
+    (record { within = false; values = d })
+
+-- all of them, from the last row to the first; a correction that is not formed stands as 0
+unfoldable pub backward : List (List ℤ) → List ℤ → ℕ → Corrections
+backward w z n = backward-from w z n n (table 8 (λ _. pos 0))

@@ -1,0 +1,87 @@
+// Substitution with eliminated rows: the forward pass with the multipliers, the backward pass with the pivots.
+use integers::magnitude;
+use rounding::rounded_quotient;
+ghost use mathlib.Core.Path.{_≡_};
+ghost use Rattle.substitution.specs.Passes.{reduced, forward, sum-above, correction, backward};
+ghost use Rattle.substitution.specs.Bounds.{Forward, Backward, Reducible, Summable, Correctable};
+ghost use lib.ListN.{getD};
+ghost use lib.IntN.{pos};
+
+// The corrections, and whether all of them were formed, each within its limit.
+pub struct Corrections {
+    pub within: bool,
+    pub values: [i64; 8],
+}
+
+// Entry i of the right-hand side, less what the row's multipliers take of the entries above it.
+fn reduced_entry(row: &[i64; 8], z: &[i64; 8], i: usize) -> i64
+    requires { ⌜ Reducible (now row) (now z) i ⌝ }
+    ensures { λ r. ⌜ r ≡ reduced (now (row .entry)) (now (z .entry)) (getD (now (z .entry)) i (pos 0)) i ⌝ }
+{
+    let mut s = z[i];
+    for j in 0..i {
+        s = s - rounded_quotient(row[j] * z[j], 16384);
+    }
+    s
+}
+
+// The sum over the columns above i of the row's entries times the corrections.
+fn sum_above(row: &[i64; 8], d: &[i64; 8], i: usize, n: usize) -> i64
+    requires { ⌜ Summable (now row) (now d) i n ⌝ }
+    ensures { λ r. ⌜ r ≡ sum-above (now (row .entry)) (now (d .entry)) i n ⌝ }
+{
+    let mut s: i64 = 0;
+    for j in i + 1..n {
+        s = s + row[j] * d[j];
+    }
+    s
+}
+
+// The correction of row i, from the entry of the right-hand side and the corrections above.
+fn correction_of(row: &[i64; 8], z: i64, d: &[i64; 8], i: usize, n: usize) -> i64
+    requires { ⌜ Correctable (now row) z (now d) i n ⌝ }
+    ensures { λ r. ⌜ r ≡ correction (now (row .entry)) z (now (d .entry)) i n ⌝ }
+{
+    let above = sum_above(row, d, i, n);
+    rounded_quotient(256 * z - above, row[i])
+}
+
+// The right-hand side with every entry reduced by the multipliers, from the top. Entries past the rows stay as they are.
+pub fn forward_pass(rows: &[[i64; 8]; 8], right: [i64; 8], n: usize) -> [i64; 8]
+    requires { ⌜ Forward (now rows) right n ⌝ }
+    ensures { λ r. ⌜ r ≡ forward (now (rows .entry)) right n ⌝ }
+{
+    let mut z = right;
+    for i in 0..n {
+        let row = rows[i];
+        let s = reduced_entry(&row, &z, i);
+        z[i] = s;
+    }
+    z
+}
+
+// The corrections, from the last row to the first. The first outside its limit ends the pass; those not formed stand as 0.
+pub fn backward_pass(rows: &[[i64; 8]; 8], z: [i64; 8], n: usize) -> Corrections
+    requires { ⌜ Backward (now rows) z n ⌝ }
+    ensures { λ r. ⌜ r ≡ backward (now (rows .entry)) z n ⌝ }
+{
+    let mut d = [0i64; 8];
+    let mut left = n;
+    while 0 < left {
+        let i = left - 1;
+        let row = rows[i];
+        let v = correction_of(&row, z[i], &d, i, n);
+        if 20000000 < magnitude(v) {
+            return Corrections {
+                within: false,
+                values: d,
+            };
+        }
+        d[i] = v;
+        left = i;
+    }
+    Corrections {
+        within: true,
+        values: d,
+    }
+}

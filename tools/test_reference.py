@@ -1,0 +1,694 @@
+#!/usr/bin/env python3
+"""Tests of the reference against the paper and against exact reasoning of their own.
+
+    python3 tools/test_reference.py
+"""
+
+import itertools
+import os
+import subprocess
+import sys
+import unittest
+from fractions import Fraction
+from unittest import mock
+
+HERE = os.path.dirname(os.path.abspath(__file__))
+sys.path.insert(0, HERE)
+
+import families  # noqa: E402
+import reference  # noqa: E402
+import samples  # noqa: E402
+import vectors  # noqa: E402
+import write_calls  # noqa: E402
+from families import END, Stream, encode, head_field, one, row_field, square, trial_field  # noqa: E402
+from reference import COUNT, REFUSAL, Outcome  # noqa: E402
+
+INPUTS = families.all_families()
+
+
+# ---------------------------------------------------------------- independent definitions
+
+
+def nearest(value):
+    """The nearest whole number to a fraction, a half away from zero, by looking at neighbours."""
+    below = value.numerator // value.denominator
+    candidates = [below, below + 1]
+    least = min(abs(value - c) for c in candidates)
+    return max((c for c in candidates if abs(value - c) == least), key=abs)
+
+
+def determinant(rows):
+    """By permutations, whole numbers only."""
+    total = 0
+    for order in itertools.permutations(range(len(rows))):
+        inversions = sum(a > b for a, b in itertools.combinations(order, 2))
+        product = (-1) ** inversions
+        for i, j in enumerate(order):
+            product *= rows[i][j]
+        total += product
+    return total
+
+
+def step_by_step_elimination(case):
+    """W, M and the order as dictionaries that count from 1, in the paper's words; None for 8."""
+    n = case.n
+    span = range(1, n + 1)
+    w = {(i, j): 256 * case.coefficients[i - 1][j - 1] for i in span for j in span}
+    m, order = {}, {i: i for i in span}
+    for k in span:
+        largest = max(abs(w[i, k]) for i in range(k, n + 1))
+        if largest == 0:
+            return None
+        p = min(i for i in range(k, n + 1) if abs(w[i, k]) == largest)
+        for j in span:
+            w[k, j], w[p, j] = w[p, j], w[k, j]
+        for j in range(1, k):
+            m[k, j], m[p, j] = m[p, j], m[k, j]
+        order[k], order[p] = order[p], order[k]
+        for i in range(k + 1, n + 1):
+            m[i, k] = nearest(Fraction(16_384 * w[i, k], w[k, k]))
+            for j in range(k + 1, n + 1):
+                w[i, j] = w[i, j] - nearest(Fraction(m[i, k] * w[k, j], 16_384))
+    return w, m, order
+
+
+def step_by_step_round(case, steps, y):
+    """One round on an answer that counts from 1; None for refusal 9."""
+    n, (w, m, order) = case.n, steps
+    span = range(1, n + 1)
+    r = {i: 10 ** case.e * case.right_sides[i - 1]
+         - sum(case.coefficients[i - 1][j - 1] * y[j] for j in span) for i in span}
+    z = {i: r[order[i]] for i in span}
+    for i in span:
+        for j in range(1, i):
+            z[i] = z[i] - nearest(Fraction(m[i, j] * z[j], 16_384))
+    d = {}
+    for i in range(n, 0, -1):
+        total = 256 * z[i] - sum(w[i, j] * d[j] for j in range(i + 1, n + 1))
+        d[i] = nearest(Fraction(total, w[i, i]))
+        if not -20_000_000 <= d[i] <= 20_000_000:
+            return None
+    new = {i: y[i] + d[i] for i in span}
+    return new if all(-10_000_000 <= new[i] <= 10_000_000 for i in span) else None
+
+
+def every_row_feasible(case, answer):
+    return all(feasible(case, i, answer, Fraction(1)) for i in range(case.n))
+
+
+def step_by_step(case):
+    """(answer, rounds used), or 8 or 9, by the two functions above."""
+    steps = step_by_step_elimination(case)
+    if steps is None:
+        return 8
+    y = {i: 0 for i in range(1, case.n + 1)}
+    for used in range(1, case.rounds + 1):
+        y = step_by_step_round(case, steps, y)
+        if y is None:
+            return 9
+        answer = [y[i] for i in range(1, case.n + 1)]
+        if every_row_feasible(case, answer):
+            break
+    return answer, used
+
+
+def misses(case, i, answer, limit):
+    """Left side less right side of a row at every corner of the box of changes under the limit."""
+    sizes = [limit * t for t in case.tolerances[i]] + [limit * case.right_tolerances[i]]
+    for corner in itertools.product(*[(-size, size) if size else (size,) for size in sizes]):
+        left = sum((a + c) * y for a, c, y in zip(case.coefficients[i], corner, answer))
+        yield left - 10 ** case.e * (case.right_sides[i] + corner[-1])
+
+
+def feasible(case, i, answer, limit):
+    """Whether changes under the limit solve the row: a linear form takes 0 on the box."""
+    values = list(misses(case, i, answer, limit))
+    return min(values) <= 0 <= max(values)
+
+
+def small_case(stream, n, size, rounds=0):
+    rows = families.shaped_rows(stream, n, size, 2, 2)
+    data = encode(stream.between(0, 1), rounds, rows, stream.list(n, -size, size))
+    return reference.read_case(data)
+
+
+def finished_record(data):
+    outcome, buffer = reference.call(data, 180)
+    assert outcome.kind == COUNT, outcome
+    return reference.read_record(buffer[:outcome.number])
+
+
+# ---------------------------------------------------------------- tests
+
+
+class Rounding(unittest.TestCase):
+    def test_against_fractions(self):
+        for q in [q for q in range(-24, 25) if q]:
+            for p in range(-80, 81):
+                self.assertEqual(reference.rnd(p, q), nearest(Fraction(p, q)), (p, q))
+
+    def test_large(self):
+        stream = Stream(101)
+        for _ in range(3000):
+            q = stream.between(1, 2 ** 33) * stream.one_of((1, -1))
+            p = (stream.between(0, 2 ** 29) * q) // 2 * stream.one_of((1, -1)) + stream.between(-1, 1)
+            self.assertEqual(reference.rnd(p, q), nearest(Fraction(p, q)), (p, q))
+
+    def test_halves_on_both_sides(self):
+        self.assertEqual([reference.rnd(p, 2) for p in (-5, -3, -1, 1, 3, 5)], [-3, -2, -1, 1, 2, 3])
+        self.assertEqual([reference.rnd(p, -2) for p in (-5, -3, -1, 1, 3, 5)], [3, 2, 1, -1, -2, -3])
+
+
+class PaperTrials(unittest.TestCase):
+    """Every trial of "Trials at the edges" with every figure that the paper gives."""
+
+    def check(self, data, **expected):
+        record = finished_record(data)
+        for name, value in expected.items():
+            self.assertEqual(getattr(record, name), value, name)
+
+    def refused(self, data, number, length=180):
+        outcome, buffer = reference.call(data, length)
+        self.assertEqual(outcome, Outcome(REFUSAL, number))
+        self.assertEqual(buffer, b"\xa5" * length)
+
+    def test_printed_case(self):
+        data = bytes.fromhex("01 0003 01 01 01 02 000C 0005 0000 FFFFFFFE 00000000 FF 0000")
+        outcome, buffer = reference.call(data, 200)
+        record = bytes.fromhex("10 0003 01 00 01 11 0004 FFFFFFFC 12 0010" + "00" * 16
+                               + "13 0002 00 01 FF 0000")
+        self.assertEqual(outcome, Outcome(COUNT, 40))
+        self.assertEqual(buffer, record + b"\xa5" * 160)
+        text = "met row 0 rounds 1\nanswer 1 -0.4\nrow 1 residual 0 reach 0\nfactor row 1\n"
+        self.assertEqual(reference.verdict_text(data), text)
+
+    def test_a3_b1(self):
+        self.check(one(3, 1, 0, 1, e=1), answer=[3], residuals=[1], reaches=[10], met=1, none=0)
+        self.check(one(3, 1, 0, 0, e=1), met=0, first_unmet=1, none=1, decides=1, answer=[3], residuals=[1])
+        self.check(one(3, 1, 1, 0, e=1), reaches=[3], met=1, answer=[3], residuals=[1])
+        self.check(one(3, -1, 0, 1, e=1), answer=[-3], residuals=[-1], reaches=[10], met=1)
+
+    def test_a2(self):
+        self.check(one(2, 1, 0, 1), answer=[1], residuals=[-1], reaches=[1], met=1, rounds_used=1)
+        self.check(one(2, 4, 1, 0, rounds=0, trial=1), residuals=[2], reaches=[1], met=0, none=0, decides=1,
+                   first_unmet=1, rounds_used=0)
+        self.assertEqual(reference.factor(2, 1), 2)
+        self.check(one(2, 1, 5, 0, rounds=0, trial=0), met=0, none=1, decides=1, residuals=[1], reaches=[0])
+
+    def test_two_tanks(self):
+        self.check(square([[0, 1], [1, 0]], [5, 7]), answer=[7, 5], met=1, none=0, decides=1, first_unmet=0)
+        self.check(square([[2, 1], [1, 3]], [5, 10]), answer=[1, 3], met=1)
+
+    def test_refusals(self):
+        for b in ([0, 0], [3, 4], [-1, 1]):
+            self.refused(square([[1, 1], [1, 1]], b), 8)
+        self.refused(one(1, 1_000_000_000), 9)
+        self.refused(families.PRINTED, 1, 179)
+        self.assertEqual(reference.call(families.PRINTED, 180)[0], Outcome(COUNT, 40))
+        self.refused(b"", 2)
+        self.refused(b"", 1, 179)
+        self.assertEqual(reference.call(families.longest_sample(), 180)[0], Outcome(COUNT, 180))
+        self.refused(encode(0, 1, [([1] * 9, [0] * 9, 1, 0)] * 9), 6)
+        self.refused(one(-32_768, 1), 6)
+
+
+class Reading(unittest.TestCase):
+    def test_order_at_each_field(self):
+        good = row_field(([5, 6], [0, 0], 7, 0))
+        bad = row_field(([5, -32_768], [0, 0], 7, 0))
+        head = head_field(2, 0, 1)
+        expected = [
+            (b"\x09\x00", 2), (b"\x09\x00\x00", 3), (b"\x01\x00\x02\x09", 4), (b"\x01\x00\x03\x09", 5),
+            (head_field(0, 0, 1), 6), (head_field(1, 4, 1), 6), (head_field(1, 0, 9), 6), (head, 2),
+            (head + b"\x02\x00", 2), (head + b"\x03\x00\x00", 3), (head + b"\x02\x00\x0f" + bad[3:], 4),
+            (head + bad[:-1], 5), (head + bad, 6), (head + good, 2), (head + good + END, 3),
+            (head + good + good, 2), (head + good + good + b"\xff\x00", 2),
+            (head + good + good + b"\xff\x00\x01\x00", 4),
+            (head + good + good + b"\x03\x00\x08" + bytes(8), 3),
+            (head + good + good + END + b"\x00", 7),
+            (head_field(2, 0, 0) + good + good + END, 3),
+            (head_field(2, 0, 0) + good + good + trial_field([0, 10_000_001]) + END, 6),
+            (head_field(2, 0, 0) + good + good + trial_field([0, -10_000_001]) + b"\x00", 6),
+        ]
+        for data, number in expected:
+            self.assertEqual(reference.read_case(data), number, data.hex())
+
+    def test_every_cut_is_refused_with_2_or_5(self):
+        for data in (families.PRINTED, families.small_sample(), families.longest_sample()):
+            starts = families.field_starts(data)
+            for length in range(len(data)):
+                inside = min(length - start for start in starts if start <= length)
+                self.assertEqual(reference.read_case(data[:length]), 2 if inside < 3 else 5)
+
+    def test_longest(self):
+        self.assertEqual(len(families.longest_sample()), 388)
+        self.assertEqual(reference.read_case(families.longest_sample() + b"\x00"), 7)
+
+    def test_longer_inputs_are_refused_alike_after_389_bytes(self):
+        for _, data, _ in INPUTS:
+            if len(data) > 389:
+                self.assertEqual(reference.read_case(data), reference.read_case(data[:389]))
+
+
+class Writing(unittest.TestCase):
+    def test_round_trip_of_every_readable_input(self):
+        for _, data, _ in INPUTS:
+            case = reference.read_case(data)
+            if isinstance(case, int):
+                continue
+            buffer = bytearray(b"\x5a" * 390)
+            outcome = reference.write_case(
+                case.n, case.e, case.rounds, sum(case.coefficients, []), sum(case.tolerances, []),
+                case.right_sides, case.right_tolerances, case.trial, buffer)
+            self.assertEqual(outcome, Outcome(COUNT, len(data)))
+            self.assertEqual(bytes(buffer), data + b"\x5a" * (390 - len(data)))
+
+    def test_what_is_written_is_read(self):
+        for n, e, rounds, lists, length in write_calls.all_calls():
+            buffer = bytearray(length)
+            outcome = reference.write_case(n, e, rounds, *lists, buffer)
+            if outcome.kind == REFUSAL:
+                self.assertEqual(buffer, bytes(length))
+                continue
+            case = reference.read_case(bytes(buffer[:outcome.number]))
+            self.assertEqual(case[:3], (n, e, rounds))
+            self.assertEqual([sum(case.coefficients, []), sum(case.tolerances, []), *case[5:]], lists)
+
+    def test_order_of_refusals(self):
+        good = [[1, 0, 0, 1], [0] * 4, [1, 1], [0, 0], []]
+        wrong_figure = [[-32_768, 0, 0, 1]] + good[1:]
+        wrong_count = wrong_figure[:3] + [[0], []]
+        for head, lists, length, number in (
+            ((9, 0, 1), wrong_count, 387, 1), ((9, 0, 1), wrong_count, 388, 6),
+            ((0, 0, 1), wrong_count, 388, 6),
+            ((2, 4, 1), good, 388, 6), ((2, 0, 9), good, 388, 6), ((-1, 0, 1), good, 388, 6),
+            ((2, 0, 1), wrong_count, 388, 4), ((2, 0, 0), good, 388, 4), ((2, 0, 1), wrong_figure, 388, 6),
+            ((2, 0, 1), good[:4] + [[0, 0]], 388, 4), ((2, 0, 1), good, 0, 1),
+        ):
+            outcome = reference.write_case(*head, *lists, bytearray(length))
+            self.assertEqual(outcome, Outcome(REFUSAL, number), (head, lists, length))
+        self.assertEqual(reference.write_case(2, 0, 1, *good, bytearray(388)), Outcome(COUNT, 47))
+
+
+class Steps(unittest.TestCase):
+    def test_against_the_steps_counted_from_one(self):
+        checked = 0
+        for family, data, _ in INPUTS:
+            case = reference.read_case(data)
+            if isinstance(case, int) or case.rounds == 0 or case.n > 5 or family == "every shape":
+                continue
+            expected = step_by_step(case)
+            try:
+                result = reference.work_out(case)
+                found = result.trial.answer, result.rounds_used
+            except reference.Refused as refused:
+                found = refused.number
+            self.assertEqual(found, expected, data.hex())
+            checked += 1
+        self.assertGreater(checked, 1000)
+
+    def test_eight_rows_against_the_steps_counted_from_one(self):
+        for n in (6, 7, 8):
+            for seed in range(4):
+                stream = Stream(300 + 10 * n + seed)
+                case = small_case(stream, n, 900, rounds=2)
+                case = case._replace(right_sides=stream.list(n, -10 ** 6, 10 ** 6), right_tolerances=[0] * n)
+                case = case._replace(tolerances=[[0] * n for _ in range(n)])
+                result = reference.work_out(case)
+                self.assertEqual((result.trial.answer, result.rounds_used), step_by_step(case))
+
+    def test_pivot_is_uppermost_of_equals(self):
+        self.assertEqual(reference.pivot_row([[0, 0], [-3, 0], [3, 0]], 0), 1)
+        self.assertEqual(reference.pivot_row([[3, 0], [-3, 0], [3, 0]], 0), 0)
+        self.assertEqual(reference.pivot_row([[9, 1], [9, -2], [9, 2]], 1), 1)
+
+    def test_triangular_cases_are_close_after_one_round(self):
+        stream = Stream(103)
+        for _ in range(200):
+            n = stream.between(1, 8)
+            rows = [[stream.between(-99, 99) if j > i else 0 for j in range(n)] for i in range(n)]
+            for i in range(n):
+                rows[i][i] = stream.between(1, 99) * stream.one_of((1, -1))
+            data = square(rows, stream.list(n, -99, 99), e=stream.between(0, 3))
+            if reference.call(data, 180)[0] != Outcome(REFUSAL, 9):
+                for i, residual in enumerate(finished_record(data).residuals):
+                    self.assertLessEqual(2 * abs(residual), abs(rows[i][i]))
+
+    def test_nine_by_answer_and_by_correction(self):
+        for b, place in ((10_000_001, "answer"), (20_000_000, "answer"), (20_000_001, "correction")):
+            for side in (1, -1):
+                with self.assertRaises(reference.Refused) as raised:
+                    reference.work(one(1, side * b), 180)
+                self.assertEqual((raised.exception.number, raised.exception.place), (9, place))
+        self.assertEqual(finished_record(one(1, -10_000_000)).answer, [-10_000_000])
+
+    def test_a_correction_at_its_limit_passes(self):
+        data = square([[20_736, 2_271], [10_098, 1_106]], [0, 234_375], rounds=2)
+        self.assertEqual(finished_record(families.with_rounds(data, 1)).answer, [-1_095_197, 10_000_000])
+        self.assertEqual(finished_record(data).answer, [1_095_197, -10_000_000])
+
+
+class Determinants(unittest.TestCase):
+    def test_refusal_8_with_determinant_1(self):
+        rows = [[32_767, 1], [32_766, 1]]
+        self.assertEqual(determinant(rows), 1)
+        self.assertEqual(reference.call(square(rows, [1, 1]), 180)[0], Outcome(REFUSAL, 8))
+
+    def test_determinant_0_without_refusal_8(self):
+        rows = [[96, 960], [224, 2_240]]
+        self.assertEqual(determinant(rows), 0)
+        self.assertNotEqual(reference.call(square(rows, [0, 0]), 180)[0], Outcome(REFUSAL, 8))
+
+    def test_equal_rows_always_give_refusal_8(self):
+        stream = Stream(104)
+        for _ in range(300):
+            a, b = stream.list(2, -32_767, 32_767)
+            self.assertEqual(reference.call(square([[a, b], [a, b]], [1, 1]), 180)[0], Outcome(REFUSAL, 8))
+            self.assertEqual(determinant([[a, b], [a, b]]), 0)
+
+    def test_vectors_hold_both_kinds(self):
+        found = set()
+        for _, data, length in INPUTS:
+            case = reference.read_case(data)
+            if length >= 180 and not isinstance(case, int) and case.rounds and case.n < 4:
+                eight = reference.call(data, length)[0] == Outcome(REFUSAL, 8)
+                found.add((eight, determinant(case.coefficients) == 0))
+        self.assertEqual(found, set(itertools.product((False, True), repeat=2)))
+
+
+class Judging(unittest.TestCase):
+    def check_rows(self, case, answer):
+        judgement = reference.judge(case, answer)
+        unmet = [i + 1 for i in range(case.n) if not feasible(case, i, answer, Fraction(1))]
+        self.assertEqual(judgement.first_unmet, unmet[0] if unmet else 0)
+        self.assertEqual(judgement.met, not unmet)
+        factors = []
+        for i in range(case.n):
+            factor = reference.factor(judgement.residuals[i], judgement.reaches[i])
+            factors.append(factor)
+            if factor is None:
+                self.assertFalse(feasible(case, i, answer, Fraction(10 ** 15)))
+                continue
+            self.assertTrue(feasible(case, i, answer, factor))
+            if factor > 0:
+                self.assertFalse(feasible(case, i, answer, factor * Fraction(10 ** 15 - 1, 10 ** 15)))
+        self.check_deciding(judgement, factors)
+
+    def check_deciding(self, judgement, factors):
+        row = judgement.decides - 1
+        if judgement.none:
+            self.assertIsNone(factors[row])
+            self.assertNotIn(None, factors[:row])
+            return
+        u, v = factors[row].numerator, factors[row].denominator
+        for i, factor in enumerate(factors):
+            s, t = factor.numerator, factor.denominator
+            self.assertTrue(u * t > s * v if i < row else u * t >= s * v)
+
+    def test_one_row_exhaustively(self):
+        ranges = (range(-2, 3), range(3), range(-2, 3), range(2), range(-2, 3), range(2))
+        for a, tolerance, b, f, y, e in itertools.product(*ranges):
+            self.check_rows(reference.Case(1, e, 0, [[a]], [[tolerance]], [b], [f], [y]), [y])
+
+    def test_small_cases(self):
+        stream = Stream(105)
+        for _ in range(600):
+            n = stream.between(2, 4)
+            self.check_rows(small_case(stream, n, stream.one_of((2, 9))), stream.list(n, -3, 3))
+
+    def test_whole_changes_found_by_search_imply_met(self):
+        """Changes as whole numerators over q, searched one by one as the third demand states them."""
+        stream = Stream(106)
+        for _ in range(60):
+            case = small_case(stream, 1, 6)
+            (a,), (tolerance,) = case.coefficients[0], case.tolerances[0]
+            b, f, y, d = case.right_sides[0], case.right_tolerances[0], case.trial[0], 10 ** case.e
+            q = d * f + tolerance * abs(y) or 1
+            exists = any(
+                (q * a + change) * y == d * (q * b + other)
+                for change in range(-q * tolerance, q * tolerance + 1)
+                for other in range(-q * f, q * f + 1))
+            self.assertEqual(reference.judge(case, case.trial).met, exists)
+
+    def test_errors_named_in_the_paper(self):
+        self.assertEqual(reference.reaches(reference.Case(1, 0, 0, [[1]], [[2]], [0], [0], [-3]), [-3]), [6])
+        self.assertFalse(reference.row_is_met(1, 0))
+        self.assertTrue(reference.row_is_met(0, 0))
+        self.assertEqual(reference.factor(0, 0), 0)
+        self.assertIsNone(reference.factor(-1, 0))
+        record = finished_record(encode(0, 1, [([0, 1], [0, 0], 5, 0), ([2, 0], [0, 0], 7, 0)]))
+        self.assertEqual((record.answer, record.residuals, record.first_unmet), ([4, 5], [0, -1], 2))
+
+
+class Changes(unittest.TestCase):
+    def test_every_record(self):
+        met_rows = 0
+        for _, data, length in INPUTS:
+            outcome, buffer = reference.call(data, length)
+            if outcome.kind == REFUSAL:
+                continue
+            case, record = reference.read_case(data), reference.read_record(buffer[:outcome.number])
+            for row in range(1, case.n + 1):
+                residual, reach = record.residuals[row - 1], record.reaches[row - 1]
+                changes = reference.row_changes(case, record, row)
+                if reference.row_is_met(residual, reach):
+                    self.assertTrue(reference.met_row_changes_hold(case, record, row))
+                    met_rows += 1
+                elif reach > 0:
+                    self.assertTrue(reference.solve_row(case, record, row, changes))
+                    self.assertFalse(reference.keep_tolerances(case, row, changes))
+                    limit = reference.factor(residual, reach)
+                    self.assertTrue(reference.keep_tolerances(case, row, changes, limit))
+        self.assertGreater(met_rows, 5000)
+
+    def test_a_wrong_sign_is_noticed(self):
+        data = encode(0, 0, [([2, 3], [1, 1], 4, 1), ([0, 1], [0, 0], 0, 9)], [-5, 5])
+        case, record = reference.read_case(data), finished_record(data)
+        self.assertTrue(reference.met_row_changes_hold(case, record, 1))
+        with mock.patch.object(reference, "sign", lambda figure: 1):
+            self.assertFalse(reference.met_row_changes_hold(case, record, 1))
+
+
+class Printing(unittest.TestCase):
+    def test_answers(self):
+        expected = {
+            (0, 0): "0", (-4, 1): "-0.4", (4, 1): "0.4", (0, 1): "0.0", (-10, 1): "-1.0", (-1, 3): "-0.001",
+            (-999, 3): "-0.999", (1000, 3): "1.000", (-1001, 3): "-1.001", (1205, 2): "12.05", (-7, 0): "-7",
+            (10_000_000, 3): "10000.000", (-10_000_000, 0): "-10000000", (-50, 2): "-0.50", (5, 2): "0.05",
+        }
+        for (figure, e), text in expected.items():
+            self.assertEqual(reference.answer_text(figure, e), text)
+            self.assertEqual(Fraction(text), Fraction(figure, 10 ** e))
+
+    def test_forms(self):
+        data = encode(2, 0, [([1, 0], [0, 0], -1, 0), ([0, 1], [1, 0], 1, 0)], [-5, 5])
+        text = ("unmet row 1 rounds 0\nanswer 1 -0.05\nanswer 2 0.05\nrow 1 residual -95 reach 0\n"
+                "row 2 residual 95 reach 5\nfactor none row 1\n")
+        self.assertEqual(reference.verdict_text(data), text)
+        self.assertEqual(reference.verdict_text(b""), "refused 2\n")
+
+    def test_longest_text(self):
+        row = ([32_767] * 8, [0] * 8, -1_000_000_000, 0)
+        rows = [([0] * 8, [32_767] * 8, 0, 1_000_000_000)] + [row] * 7
+        data = encode(3, 0, rows, [10_000_000] * 8)
+        self.assertIn("row 8 residual -3621360000000 reach 0\n", reference.verdict_text(data))
+        self.assertLessEqual(max(len(reference.verdict_text(d)) for _, d, _ in INPUTS[::7]), 599)
+
+    def test_command(self):
+        for data in (families.PRINTED, b"", families.longest_sample() + bytes(5000)):
+            command = [sys.executable, os.path.join(HERE, "reference.py"), "verdict"]
+            done = subprocess.run(command, input=data, capture_output=True, check=True)
+            self.assertEqual(done.stdout.decode("ascii"), reference.verdict_text(data))
+
+
+class StoredForms(unittest.TestCase):
+    @classmethod
+    def setUpClass(cls):
+        cls.files = vectors.make_files()
+
+    def take(self, content, place, count):
+        self.assertLessEqual(place + count, len(content))
+        return content[place:place + count], place + count
+
+    def take_number(self, content, place, count=2):
+        value, place = self.take(content, place, count)
+        return int.from_bytes(value, "big"), place
+
+    def test_vectors_parse(self):
+        content, place, items = self.files["vectors.bin"], 0, 0
+        while content[place:place + 2] != b"\xff\xff":
+            length, place = self.take_number(content, place)
+            data, place = self.take(content, place, length)
+            buffer_length, place = self.take_number(content, place)
+            kind, place = self.take_number(content, place, 1)
+            number, place = self.take_number(content, place)
+            record, place = self.take(content, place, 0 if kind else number)
+            outcome, buffer = reference.call(data, buffer_length)
+            self.assertEqual((outcome.kind == REFUSAL, outcome.number), (kind == 1, number))
+            self.assertEqual(buffer, record + b"\xa5" * (buffer_length - len(record)))
+            self.assertLessEqual(length, 400)
+            items += 1
+        self.assertEqual(place + 2, len(content))
+        self.assertGreaterEqual(items, 3000)
+
+    def test_texts_parse(self):
+        content, place, items = self.files["texts.bin"], 0, 0
+        while content[place:place + 2] != b"\xff\xff":
+            length, place = self.take_number(content, place)
+            data, place = self.take(content, place, length)
+            length, place = self.take_number(content, place)
+            text, place = self.take(content, place, length)
+            self.assertEqual(text.decode("ascii"), reference.verdict_text(data))
+            self.assertLessEqual(len(data), 389)
+            items += 1
+        self.assertEqual(place + 2, len(content))
+        self.assertGreaterEqual(items, 400)
+
+    def take_list(self, content, place, width, signed):
+        count, place = self.take_number(content, place, 1)
+        value, place = self.take(content, place, count * width)
+        parts = [value[i * width:(i + 1) * width] for i in range(count)]
+        return [int.from_bytes(part, "big", signed=signed) for part in parts], place
+
+    def test_writes_parse(self):
+        content, place, items = self.files["writes.bin"], 0, 0
+        while content[place:place + 2] != b"\xff\xff":
+            head, place = self.take(content, place, 3)
+            lists = []
+            for width, signed in ((2, True), (2, False), (4, True), (4, False), (4, True)):
+                figures, place = self.take_list(content, place, width, signed)
+                lists.append(figures)
+            length, place = self.take_number(content, place)
+            kind, place = self.take_number(content, place, 1)
+            number, place = self.take_number(content, place)
+            case, place = self.take(content, place, 0 if kind else number)
+            buffer = bytearray(b"\xa5" * length)
+            outcome = reference.write_case(*head, *lists, buffer)
+            self.assertEqual((outcome.kind == REFUSAL, outcome.number), (kind == 1, number))
+            self.assertEqual(bytes(buffer), case + b"\xa5" * (length - len(case)))
+            items += 1
+        self.assertEqual(content[place:], b"\xff\xff\xff")
+        self.assertGreaterEqual(items, 300)
+
+    def test_sizes(self):
+        self.assertLess(len(self.files["vectors.bin"]) + len(self.files["texts.bin"]), 2_000_000)
+
+    def test_samples_parse(self):
+        for name, content in samples.make_files().items():
+            if name.endswith(".hex"):
+                lines = content.decode("ascii").splitlines()
+                data = bytes.fromhex("".join(line.split("#")[0] for line in lines))
+                self.assertEqual(data, samples.SAMPLES[name[:-4]]())
+
+
+def results(inputs):
+    return [(reference.call(data, length), reference.verdict_text(data)) for data, length in inputs]
+
+
+class Mistakes(unittest.TestCase):
+    """Each mistake put into the reference changes at least one vector."""
+
+    @classmethod
+    def setUpClass(cls):
+        cls.inputs = [(data, length) for _, data, length in INPUTS if length >= 180 and len(data) < 160]
+        cls.right = results(cls.inputs)
+
+    def caught(self, name, wrong, least=3):
+        with mock.patch.object(reference, name, wrong):
+            found = results(self.inputs)
+        differing = sum(a != b for a, b in zip(self.right, found))
+        self.assertGreaterEqual(differing, least, name)
+
+    def test_rounding(self):
+        self.caught("rnd", lambda p, q: (2 * p + q) // (2 * q))
+        self.caught("rnd", lambda p, q: round(Fraction(p, q)))
+        self.caught("rnd", lambda p, q: reference.sign(p) * reference.sign(q) * (abs(p) // abs(q)))
+
+    def test_rounding_in_each_place(self):
+        def even(p, q):
+            return round(Fraction(p, q))
+
+        self.caught("multiplier", lambda entry, pivot: even(16_384 * entry, pivot))
+        self.caught("loss", lambda m, figure: even(m * figure, 16_384))
+
+    def test_pivot(self):
+        def lowest(working, k):
+            return max(range(k, len(working)), key=lambda i: (abs(working[i][k]), i))
+
+        def greatest(working, k):
+            return max(range(k, len(working)), key=lambda i: working[i][k])
+
+        self.caught("pivot_row", lowest)
+        self.caught("pivot_row", greatest)
+
+    def test_multipliers_left_behind(self):
+        def wrong(elimination, k, other):
+            for rows in (elimination.working, elimination.permutation):
+                rows[k], rows[other] = rows[other], rows[k]
+
+        self.caught("exchange", wrong)
+
+    def test_judging(self):
+        self.caught("row_is_met", lambda residual, reach: abs(residual) < reach)
+        self.caught("row_is_met", lambda residual, reach: abs(residual) <= reach or reach == 0)
+        self.caught("row_is_met", lambda residual, reach: residual <= reach)
+        self.caught("factor", lambda r, t: Fraction(abs(r), t) if t else Fraction(0))
+        self.caught("factor", lambda r, t: Fraction(abs(r), t) if t else None)
+        self.caught("factor", lambda r, t: Fraction(r, t) if t else (None if r else Fraction(0)))
+
+    def test_close_factors(self):
+        def coarse(r, t):
+            return Fraction(abs(r) * 2 ** 52 // t, 2 ** 52) if t else (None if r else Fraction(0))
+
+        self.caught("factor", coarse)
+
+    def test_deciding(self):
+        right = reference.deciding
+
+        def last(factors):
+            none, row = right(factors[::-1])
+            return none, len(factors) + 1 - row
+
+        self.caught("deciding", last)
+
+    def test_reach(self):
+        def signed(case, answer):
+            return [abs(10 ** case.e * f + sum(t * y for t, y in zip(row, answer)))
+                    for f, row in zip(case.right_tolerances, case.tolerances)]
+
+        def unscaled(case, answer):
+            return [f + sum(t * abs(y) for t, y in zip(row, answer))
+                    for f, row in zip(case.right_tolerances, case.tolerances)]
+
+        self.caught("reaches", signed)
+        self.caught("reaches", unscaled)
+
+    def test_order_of_judgement(self):
+        right = reference.work_out
+
+        def exchanged(case):
+            result = right(case)
+            order = reference.eliminate(case.coefficients).permutation
+            moved = case._replace(**{name: [getattr(case, name)[i] for i in order] for name in (
+                "coefficients", "tolerances", "right_sides", "right_tolerances")})
+            answer = result.trial.answer
+            return result._replace(trial=reference.Trial(answer, reference.judge(moved, answer)))
+
+        self.caught("work_out", exchanged)
+
+    def test_limits(self):
+        self.caught("CORRECTION_LIMIT", 19_999_999, least=1)
+        self.caught("ANSWER_LIMIT", 9_999_999)
+        self.caught("ANSWER_LIMIT", 10_000_001)
+        self.caught("kept_trial", lambda trials: trials[0])
+
+    def test_sign_of_an_answer(self):
+        def wrong(figure, e):
+            whole = (figure > 0) * figure // 10 ** e or -(-figure // 10 ** e)
+            return f"{whole}.{abs(figure) % 10 ** e:0{e}d}" if e else f"{whole}"
+
+        self.caught("answer_text", wrong)
+
+
+if __name__ == "__main__":
+    unittest.main()

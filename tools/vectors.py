@@ -1,0 +1,259 @@
+#!/usr/bin/env python3
+"""Test vectors from the reference: results, printed verdicts and written cases.
+
+    python3 tools/vectors.py DIR           make the three files in DIR
+    python3 tools/vectors.py --check DIR   make them again in memory and compare
+    python3 tools/vectors.py --stats       print how many vectors there are of each kind
+
+All numbers are big-endian. Three files, each a stream of items without padding.
+
+vectors.bin, one item for each call that takes a case and a result buffer:
+    2 bytes  length of the input (0 to 400; FFFF ends the stream, nothing follows)
+    then     the input
+    2 bytes  length of the result buffer (0, 1, 179, 180, 181 or 400)
+    1 byte   kind: 0 a count, 1 a refusal
+    2 bytes  the number: the count (40 to 180) or the refusal (1 to 9)
+    then     for a count exactly that many bytes, the record
+  The buffer holds A5 in every byte before the call. Afterwards the record is at its
+  front and every byte beyond the record, or for a refusal every byte, is still A5.
+
+texts.bin, one item for each input of the program `verdict`:
+    2 bytes  length of the input (0 to 389; FFFF ends the stream, nothing follows)
+    then     the input
+    2 bytes  length of the printed text (at most 599)
+    then     the text, its last line feed included
+
+writes.bin, one item for each call of the case writer:
+    3 bytes  n, e, K (FF FF FF ends the stream, nothing follows; no call starts FF FF)
+    then     five lists, each 1 byte count (at most 80) and its figures:
+             coefficients (2 bytes, two's complement), tolerances (2 bytes, unsigned),
+             right sides (4 bytes, two's complement), their tolerances (4 bytes, unsigned),
+             trial (4 bytes, two's complement)
+    2 bytes  length of the buffer (0, 1, 180, 387, 388, 389, 400 or 512)
+    1 byte   kind: 0 a count, 1 a refusal
+    2 bytes  the number: the count (24 to 388) or the refusal (1, 4 or 6)
+    then     for a count exactly that many bytes, the case
+  The buffer holds A5 in every byte before the call, as above.
+"""
+
+import os
+import sys
+from collections import Counter
+
+import families
+import reference
+import write_calls
+
+END_MARK = b"\xff\xff"
+FILL = 0xA5
+TEXTS_PER_FAMILY = 28
+WIDTHS = (2, 2, 4, 4, 4)
+
+
+def short(number):
+    return number.to_bytes(2, "big")
+
+
+# ---------------------------------------------------------------- the three files
+
+
+def outcome_bytes(outcome, buffer):
+    """Kind, number and, for a count, the bytes at the buffer's front."""
+    beyond = outcome.number if outcome.kind == reference.COUNT else 0
+    assert buffer[beyond:] == bytes([FILL]) * (len(buffer) - beyond)
+    kind = 0 if outcome.kind == reference.COUNT else 1
+    return bytes([kind]) + short(outcome.number) + buffer[:beyond]
+
+
+def make_vectors(inputs):
+    parts = []
+    for _, data, length in inputs:
+        outcome, buffer = reference.call(data, length, FILL)
+        parts.append(short(len(data)) + data + short(length) + outcome_bytes(outcome, buffer))
+    return b"".join(parts) + END_MARK
+
+
+def text_inputs(inputs):
+    """Inputs spread evenly over each family, and the whole family of signs."""
+    chosen = []
+    for name, _ in families.FAMILIES:
+        fitting = [data for family, data, _ in inputs if family == name and len(data) <= 389]
+        count = len(fitting) if name == "signs" else min(len(fitting), TEXTS_PER_FAMILY)
+        chosen += [fitting[i * len(fitting) // count] for i in range(count)]
+    return chosen
+
+
+def make_texts(inputs):
+    parts = []
+    for data in text_inputs(inputs):
+        text = reference.verdict_text(data).encode("ascii")
+        parts.append(short(len(data)) + data + short(len(text)) + text)
+    return b"".join(parts) + END_MARK
+
+
+def written(call):
+    """The writer's outcome for a call, and the buffer afterwards."""
+    n, e, rounds, lists, length = call
+    buffer = bytearray([FILL]) * length
+    outcome = reference.write_case(n, e, rounds, *lists, buffer)
+    return outcome, bytes(buffer)
+
+
+def make_writes():
+    parts = []
+    for call in write_calls.all_calls():
+        n, e, rounds, lists, length = call
+        stored = [bytes([n, e, rounds])]
+        for figures, width in zip(lists, WIDTHS, strict=True):
+            stored.append(bytes([len(figures)]) + families.numbers(figures, width))
+        assert stored[0][:2] != END_MARK and max(len(figures) for figures in lists) <= 80
+        parts.append(b"".join(stored) + short(length) + outcome_bytes(*written(call)))
+    return b"".join(parts) + END_MARK + b"\xff"
+
+
+def make_files():
+    inputs = families.all_families()
+    return {
+        "vectors.bin": make_vectors(inputs),
+        "texts.bin": make_texts(inputs),
+        "writes.bin": make_writes(),
+    }
+
+
+# ---------------------------------------------------------------- writing and comparing
+
+
+def write_files(directory):
+    os.makedirs(directory, exist_ok=True)
+    for name, content in make_files().items():
+        with open(os.path.join(directory, name), "wb") as file:
+            file.write(content)
+        print(f"{name}: {len(content)} bytes")
+    return 0
+
+
+def difference(name, expected, stored):
+    """What differs, in one line, or nothing."""
+    if expected == stored:
+        return ""
+    pairs = enumerate(zip(expected, stored))
+    place = next((i for i, (a, b) in pairs if a != b), min(len(expected), len(stored)))
+    return f"{name}: differs at byte {place}; {len(expected)} bytes made, {len(stored)} stored"
+
+
+def check_files(directory):
+    messages = []
+    for name, expected in make_files().items():
+        path = os.path.join(directory, name)
+        if not os.path.exists(path):
+            messages.append(f"{name}: missing")
+            continue
+        with open(path, "rb") as file:
+            messages.append(difference(name, expected, file.read()))
+    messages = [message for message in messages if message]
+    for message in messages:
+        sys.stderr.write(f"vectors: {message}\n")
+    print("vectors: differences found" if messages else "vectors: all files agree")
+    return 1 if messages else 0
+
+
+# ---------------------------------------------------------------- how many of each kind
+
+
+class Halves:
+    """Notes, while in use, where rounded divisions fall on a half and on which side of zero."""
+
+    def __init__(self):
+        self.places = set()
+        self.plain = reference.rnd
+
+    def rnd(self, p, q):
+        if 2 * abs(p) % (2 * abs(q)) == abs(q):
+            frame = sys._getframe(1)
+            frame = frame.f_back if frame.f_code.co_name == "loss" else frame
+            side = "above" if (p < 0) == (q < 0) else "below"
+            self.places.add(f"half in {frame.f_code.co_name}, {side} zero")
+        return self.plain(p, q)
+
+    def __enter__(self):
+        reference.rnd = self.rnd
+        return self
+
+    def __exit__(self, *_):
+        reference.rnd = self.plain
+
+
+def judgement_kinds(result):
+    """The kinds under which a finished case is counted."""
+    case, (_, judgement), used = result
+    verdict = "met" if judgement.met else "unmet, none" if judgement.none else "unmet, factor"
+    worked = f"{verdict.split(',')[0]}, rounds used {used}" if case.rounds else f"brought, {verdict}"
+    found = ["count", f"n {case.n}", f"e {case.e}", f"K {case.rounds}", verdict, worked,
+             f"deciding row {judgement.decides}", f"first unmet row {judgement.first_unmet}"]
+    pairs = list(zip(judgement.residuals, judgement.reaches, strict=True))
+    factors = [reference.factor(residual, reach) for residual, reach in pairs]
+    if not judgement.none and factors.count(max(factors)) > 1:
+        found.append("greatest factor in several rows")
+    if (0, 0) in pairs:
+        found.append("a row without residual and reach")
+    if any(abs(residual) == reach > 0 for residual, reach in pairs):
+        found.append("a row with residual equal to reach")
+    return found
+
+
+def kinds(data, length):
+    """The kinds under which one vector is counted."""
+    with Halves() as halves:
+        try:
+            result = reference.work(data, length)
+        except reference.Refused as refused:
+            by = f" by {refused.place}" if refused.place else ""
+            return [f"refusal {refused.number}{by}"]
+    found = judgement_kinds(result) + sorted(halves.places)
+    coefficients = result.case.coefficients
+    if result.case.rounds and reference.eliminate(coefficients).permutation != list(range(result.case.n)):
+        found.append("rows exchanged")
+    return found
+
+
+def write_kinds():
+    found = Counter()
+    for call in write_calls.all_calls():
+        outcome, _ = written(call)
+        found["count" if outcome.kind == reference.COUNT else f"refusal {outcome.number}"] += 1
+    return found
+
+
+def print_counts(title, counts):
+    print(title)
+    for kind, count in sorted(counts.items()):
+        print(f"  {kind:40}{count:7}")
+
+
+def print_stats():
+    inputs = families.all_families()
+    texts = [reference.verdict_text(data) for data in text_inputs(inputs)]
+    written_kinds = write_kinds()
+    counts = Counter()
+    for _, data, length in inputs:
+        counts.update(kinds(data, length))
+    print_counts(f"vectors, {len(inputs)}, by family", Counter(name for name, _, _ in inputs))
+    print_counts("vectors by kind", counts)
+    print_counts(f"texts, {len(texts)}, by first word", Counter(text.split()[0] for text in texts))
+    print_counts(f"calls of the writer, {sum(written_kinds.values())}", written_kinds)
+    return 0
+
+
+def main(arguments):
+    if arguments == ["--stats"]:
+        return print_stats()
+    if len(arguments) == 2 and arguments[0] == "--check":
+        return check_files(arguments[1])
+    if len(arguments) == 1 and not arguments[0].startswith("-"):
+        return write_files(arguments[0])
+    sys.stderr.write("usage: python3 tools/vectors.py DIR | --check DIR | --stats\n")
+    return 2
+
+
+if __name__ == "__main__":
+    sys.exit(main(sys.argv[1:]))
