@@ -1,0 +1,5 @@
+pub mod Result
+pub mod Trials
+pub mod Statement
+pub mod Edges
+pub mod NotSingular
