@@ -74,11 +74,11 @@ module _ (n rounds : ℕ) (Y : List ℤ) (j : Judgement) where
   abbrev T : ℕ → ℕ
   T i = getD (j .reaches) i 0
 
-  pub recorded-met : eqb (getD (recordOf n rounds Y j) 3 0) 1 ≡ j .met
+  pub recorded-met : recordedFinding n (recordOf n rounds Y j) .met ≡ j .met
   unfolding recordOf judgedFields field bytes
   recorded-met = flag-eqb (j .met)
 
-  pub recorded-unmet : getD (recordOf n rounds Y j) 4 0 ≡ j .unmet
+  pub recorded-unmet : recordedFinding n (recordOf n rounds Y j) .unmet ≡ j .unmet
   unfolding recordOf judgedFields field bytes
   recorded-unmet = refl
 
@@ -158,7 +158,7 @@ module _ (n rounds : ℕ) (Y : List ℤ) (j : Judgement) where
         ∙ number-behind 8 3 (16 * i + k) (header 18 (length pairs)) (pairs ++ last) (length-header 18 (length pairs))
         ∙ piece-number 8 16 i k piece (pairs ++ last) here
 
-    pub recorded-residual : SFits w64 (R i) → toZ w64 (number 8 (12 + 4 * n + 16 * i) (recordOf n rounds Y j)) ≡ R i
+    pub recorded-residual : SFits w64 (R i) → recordedFinding n (recordOf n rounds Y j) .R i ≡ R i
     recorded-residual f =
         let e : 12 + 4 * n + 16 * i ≡ 12 + 4 * n + (16 * i + 0) = omega arith in
         ap (toZ w64)
@@ -168,7 +168,7 @@ module _ (n rounds : ℕ) (Y : List ℤ) (j : Judgement) where
         ∙ number-front 8 (ofZ w64 (R i)) (bytes 8 (T i) ++ here .behind) (bits-below w64 (R i) f))
         ∙ toZ-ofZ f
 
-    pub recorded-reach : T i < 256 ^ 8 → number 8 (20 + 4 * n + 16 * i) (recordOf n rounds Y j) ≡ T i
+    pub recorded-reach : T i < 256 ^ 8 → recordedFinding n (recordOf n rounds Y j) .T i ≡ T i
     recorded-reach f =
         let e : 20 + 4 * n + 16 * i ≡ 12 + 4 * n + (16 * i + 8) = omega arith in
         ap (λ m. number 8 m (recordOf n rounds Y j)) e
@@ -184,13 +184,13 @@ module _ (n rounds : ℕ) (Y : List ℤ) (j : Judgement) where
       rw (from-factor, ← three)
       (getD-append-add ((W ++ answerField n Y) ++ rowsField n (j .residuals) (j .reaches)) last k 0)
 
-  pub recorded-none : eqb (getD (recordOf n rounds Y j) (15 + 20 * n) 0) 1 ≡ j .none
+  pub recorded-none : recordedFinding n (recordOf n rounds Y j) .none ≡ j .none
   unfolding field bytes
   recorded-none =
       let e : 15 + 20 * n ≡ 12 + 20 * n + 3 = omega arith in
       ap (λ k. eqb (getD (recordOf n rounds Y j) k 0) 1) e ∙ ap (λ x. eqb x 1) (last-byte 3) ∙ flag-eqb (j .none)
 
-  pub recorded-decides : getD (recordOf n rounds Y j) (16 + 20 * n) 0 ≡ j .decides
+  pub recorded-decides : recordedFinding n (recordOf n rounds Y j) .decides ≡ j .decides
   unfolding field bytes
   recorded-decides =
       let e : 16 + 20 * n ≡ 12 + 20 * n + 4 = omega arith in
