@@ -1,13 +1,18 @@
-// Runs the call on the inputs of vectors.bin, and compares what it does with the results of a second implementation that stand there.
+// Runs the call on the inputs of vectors.bin and the printed verdict on those of texts.bin, and compares what they do with the results of a second
+// implementation that stand there.
 //
-// All numbers are big-endian. The file is a stream of results, each of
+// All numbers are big-endian. A file is a stream of results, each of
 //     2 bytes  the length of the input, at most 400, or FFFF at the end of the stream
 //     then     the input
+// and in vectors.bin
 //     2 bytes  the length of the result buffer, at most 400
 //     1 byte   0 for a count, 1 for a refusal
 //     2 bytes  the count, at most 180, or the refusal's number
 //     then     for a count, the record
-// Every byte of the buffer is A5 before the call, and so is every byte beyond the record after it, or every byte after a refusal.
+// and in texts.bin
+//     2 bytes  the length of the printed text, at most 800
+//     then     the text
+// Every byte of the result buffer is A5 before the call, and so is every byte beyond the record after it, or every byte after a refusal.
 use libc::STDOUT_FILENO;
 use outcome::Outcome;
 
@@ -16,6 +21,8 @@ const LONGEST_INPUT: usize = 400;
 const LONGEST_BUFFER: usize = 400;
 
 const LONGEST_RECORD: usize = 180;
+
+const TEXT_ROOM: usize = 800;
 
 const UNTOUCHED: u8 = 0xA5;
 
@@ -115,6 +122,49 @@ fn compare_next(fd: i32, inputs: &[u8; LONGEST_INPUT], size: usize) -> Item {
     compare(inputs, size, length, kind, number, &expected)
 }
 
+// Whether two texts, with what follows them, are the same.
+fn same_texts(a: &[u8; TEXT_ROOM], b: &[u8; TEXT_ROOM]) -> bool {
+    check::same(a, b)
+}
+
+// Prints the verdict of the first size bytes of inputs, and compares it with the expected text of this length.
+fn compare_text(
+    inputs: &[u8],
+    size: usize,
+    length: usize,
+    expected: &[u8; TEXT_ROOM],
+) -> Item {
+    if inputs.len() < size {
+        return Item::Malformed;
+    }
+    let mut text = [UNTOUCHED; TEXT_ROOM];
+    if verdict_text::verdict_text(&inputs[..size], &mut text) != length {
+        return Item::Differs;
+    }
+    if same_texts(&text, expected) {
+        Item::Agrees
+    } else {
+        Item::Differs
+    }
+}
+
+// Reads the text for the first size bytes of inputs, and compares.
+fn compare_next_text(fd: i32, inputs: &[u8; LONGEST_INPUT], size: usize) -> Item {
+    let mut head = [0u8; 2];
+    if !read_exactly(fd, &mut head) {
+        return Item::Malformed;
+    }
+    let length = bigendian::read_u16(&head, 0) as usize;
+    if TEXT_ROOM < length {
+        return Item::Malformed;
+    }
+    let mut expected = [UNTOUCHED; TEXT_ROOM];
+    if !read_exactly(fd, &mut expected[..length]) {
+        return Item::Malformed;
+    }
+    compare_text(inputs, size, length, &expected)
+}
+
 // Whether nothing is left of the file.
 fn is_ended(fd: i32) -> bool {
     let mut byte = [0u8; 1];
@@ -122,7 +172,7 @@ fn is_ended(fd: i32) -> bool {
 }
 
 // Reads the next input or the end of the stream.
-fn next_item(fd: i32) -> Item {
+fn next_item(fd: i32, texts: bool) -> Item {
     let mut head = [0u8; 2];
     if !read_exactly(fd, &mut head) {
         return Item::Malformed;
@@ -142,7 +192,11 @@ fn next_item(fd: i32) -> Item {
     if !read_exactly(fd, &mut inputs[..size]) {
         return Item::Malformed;
     }
-    compare_next(fd, &inputs, size)
+    if texts {
+        compare_next_text(fd, &inputs, size)
+    } else {
+        compare_next(fd, &inputs, size)
+    }
 }
 
 // One more, up to the most results that are counted.
@@ -155,12 +209,12 @@ fn one_more(count: u64) -> u64 {
 }
 
 // Compares every result of the file.
-fn compare_all(fd: i32) -> Tally {
+fn compare_all(fd: i32, texts: bool) -> Tally {
     let mut results = 0;
     let mut agree = 0;
     let mut first_difference = 0;
     while results < MOST_RESULTS {
-        let item = next_item(fd);
+        let item = next_item(fd, texts);
         match item {
             Item::Agrees => agree = one_more(agree),
             Item::Differs => {
@@ -204,13 +258,18 @@ fn print(t: Tally) {
     io::write_all(STDOUT_FILENO, b"\n");
 }
 
-fn main() {
-    let path = b"vectors.bin";
+// Compares the results of a file and prints how many agree.
+fn run(path: &[u8], texts: bool) {
     let fd = os::open_read(path);
     if fd < 0 {
         os::fail(path);
         return;
     }
-    print(compare_all(fd));
+    print(compare_all(fd, texts));
     libc::close(fd);
+}
+
+fn main() {
+    run(b"vectors.bin", false);
+    run(b"texts.bin", true);
 }

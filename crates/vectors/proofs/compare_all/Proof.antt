@@ -6,10 +6,10 @@ use Rattle.vectors.proofs.compare_all.Statement.{statement}
 use Rattle.vectors.proofs.compare_all.Tie as tie
 
 abbrev Inv-loop : tie.InvT-loop
-Inv-loop fd results₀ agree₀ first-difference₀ results agree first-difference = Unit {0}
+Inv-loop fd texts results₀ agree₀ first-difference₀ results agree first-difference = Unit {0}
 
 abbrev μ-loop : tie.MeasureT-loop
-μ-loop fd results₀ agree₀ first-difference₀ results agree first-difference = 1000000 - results
+μ-loop fd texts results₀ agree₀ first-difference₀ results agree first-difference = 1000000 - results
 
 loop-holds : tie.Need-loop-holds Inv-loop μ-loop
 loop-holds c = search needs

@@ -48,11 +48,17 @@ read-exactly-requires-2 c κs = search needs
 returns-5 : tie.Need-returns-5
 returns-5 c = search needs
 
+compare-next-text-requires : tie.Need-compare-next-text-requires
+compare-next-text-requires c κs = search needs
+
 compare-next-requires : tie.Need-compare-next-requires
 compare-next-requires c κs = search needs
 
 returns-6 : tie.Need-returns-6
 returns-6 c = search needs
+
+returns-7 : tie.Need-returns-7
+returns-7 c = search needs
 
 pub next-item-spec : {M : Type 1} → statement M
 next-item-spec =
@@ -72,5 +78,7 @@ next-item-spec =
     slice-aggregate-read-exactly-2
     read-exactly-requires-2
     returns-5
+    compare-next-text-requires
     compare-next-requires
-    returns-6)
+    returns-6
+    returns-7)
