@@ -128,12 +128,7 @@ fn same_texts(a: &[u8; TEXT_ROOM], b: &[u8; TEXT_ROOM]) -> bool {
 }
 
 // Prints the verdict of the first size bytes of inputs, and compares it with the expected text of this length.
-fn compare_text(
-    inputs: &[u8],
-    size: usize,
-    length: usize,
-    expected: &[u8; TEXT_ROOM],
-) -> Item {
+fn compare_text(inputs: &[u8], size: usize, length: usize, expected: &[u8; TEXT_ROOM]) -> Item {
     if inputs.len() < size {
         return Item::Malformed;
     }
