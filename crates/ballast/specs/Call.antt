@@ -13,7 +13,7 @@ use Rattle.outcome.specs.declared.Outcome.the-variants.{Count, Refused}
 use Rattle.outcome.specs.declared.Status.{Status as FileStatus}
 use Rattle.outcome.specs.declared.Status.the-variants.{Accepted, Refused as RefusedBy}
 use Rattle.integers.specs.Tables.{table}
-use Rattle.bigendian.specs.Number.{onto}
+use Rattle.buffer.specs.Buffer.{onto}
 use Rattle.casefile.specs.declared.Case.{Case}
 use Rattle.casefile.specs.Decode.{Decoded, accepted, refused, decode, stored}
 use Rattle.casefile.specs.Write.{Written}

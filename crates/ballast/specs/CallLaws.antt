@@ -11,7 +11,7 @@ use Rattle.outcome.specs.declared.Refusal.{Refusal}
 use Rattle.outcome.specs.declared.Refusal.the-variants.{BufferTooShort}
 use Rattle.outcome.specs.declared.Outcome.the-variants.{Count, Refused}
 use Rattle.outcome.specs.declared.Status.the-variants.{Accepted, Refused as RefusedBy}
-use Rattle.bigendian.specs.Number.{onto}
+use Rattle.buffer.specs.Buffer.{onto}
 use Rattle.casefile.specs.declared.Case.{Case}
 use Rattle.casefile.specs.Case.{Case as Figures}
 use Rattle.casefile.specs.Decode.{Decoded, accepted, refused, decode, stored, reading}

@@ -18,8 +18,8 @@ use Rattle.outcome.specs.declared.Status.{Status as FileStatus}
 use Rattle.outcome.specs.declared.Status.the-variants.{Accepted, Refused as RefusedBy}
 use Rattle.ballast.specs.declared.Answer.{Answer as FileAnswer}
 use Rattle.outcome.specs.declared.Outcome.the-variants.{Count, Refused}
-use Rattle.bigendian.specs.Number.{onto}
-use Rattle.bigendian.specs.BufferLaws.{take-onto}
+use Rattle.buffer.specs.Buffer.{onto}
+use Rattle.buffer.specs.Laws.{take-onto}
 use Rattle.casefile.specs.Case.{Case}
 use Rattle.casefile.specs.CaseLaws.{Good, good, decode-fine}
 use Rattle.casefile.specs.Decode.{Decoded, accepted, refused, decode, stored}
@@ -30,7 +30,7 @@ use Rattle.judge.specs.Finding.{Finding, finding, Justified, Agrees}
 use Rattle.judge.specs.Laws.{first-not-suc, at-residuals, at-reaches}
 use Rattle.judge.specs.Theorem.{justified}
 use Rattle.recordfile.specs.Layout.{recordOf, recordLength, Holds}
-use Rattle.recordfile.specs.Laws.{length-record}
+use Rattle.recordfile.specs.Laws.{length-record, longest-record}
 use Rattle.recordfile.specs.ReadOff.{recordedRounds, recordedAnswer, recordedFinding}
 use Rattle.recordfile.specs.ReadOffLaws.{recorded-met, recorded-unmet, recorded-rounds, recorded-answer, recorded-residual, recorded-reach, recorded-none, recorded-decides}
 use Rattle.solver.specs.declared.Solution.{Solution}
@@ -126,10 +126,11 @@ module _ (c : Case) (g : Good c) where
 
 -- a count comes only from an answer, and the bytes at the buffer's front are its record
 counted : (t : FileStatus) (x : FileAnswer) (m : ℕ) (out : List ℕ) → finished-by t x out .outcome ≡ Count m
-    → (t ≡ Accepted) × (take m (finished-by t x out .buffer) ≡ recordOf (x .n) (x .rounds) (x .trial) (x .judgement))
+    → (t ≡ Accepted) × (m ≡ recordLength (x .n)) × (take m (finished-by t x out .buffer) ≡ recordOf (x .n) (x .rounds) (x .trial) (x .judgement))
 counted Accepted x m out e =
     let q : recordLength (x .n) ≡ m = cc in (
       refl,
+      sym q,
       rw (← q, ← length-record (x .n) (x .rounds) (x .trial) (x .judgement)) (take-onto (recordOf (x .n) (x .rounds) (x .trial) (x .judgement)) out),
     )
 counted (RefusedBy r) x m out e = let z : _≡_ {A = ℕ} 0 1 = cc in absurd (omega arith)
@@ -140,13 +141,29 @@ module _ (input out : List ℕ) where
   answer-demand (accepted c) q m e =
       let g = good c (decode-fine input c q) in
       let k = counted (answer-of (accepted c) .status) (answer-of (accepted c)) m out e in
-      record { case = c; read = q; finished = rw (k .1) (finished-case c g) }
+      record { case = c; read = q; finished = rw (k .2) (finished-case c g) }
   answer-demand (refused r) q m e = let z : _≡_ {A = ℕ} 0 1 = cc in absurd (omega arith)
 
   roomy-demand : (b : Bool) (m : ℕ) → cond b (finished (answer-of (decode input)) out) (refusing BufferTooShort out) .outcome ≡ Count m
       → Demand input (cond b (finished (answer-of (decode input)) out) (refusing BufferTooShort out) .buffer) m
   roomy-demand true m e = answer-demand (decode input) refl m e
   roomy-demand false m e = let z : _≡_ {A = ℕ} 0 1 = cc in absurd (omega arith)
+
+  answer-count : (d : Decoded) → decode input ≡ d → (m : ℕ) → finished (answer-of d) out .outcome ≡ Count m → m ≤ shortest
+  unfolding finished answer-of stored
+  answer-count (accepted c) q m e =
+      let k = counted (answer-of (accepted c) .status) (answer-of (accepted c)) m out e in
+      omega (arith, k .1, longest-record (c .n) (good c (decode-fine input c q) .small))
+  answer-count (refused r) q m e = let z : _≡_ {A = ℕ} 0 1 = cc in absurd (omega arith)
+
+  -- no count is above the longest record
+  pub count-le : (m : ℕ) → call input out .outcome ≡ Count m → m ≤ shortest
+  unfolding call
+  count-le m e = go (leb shortest (length out)) e
+    where
+      go : (b : Bool) → cond b (finished (answer-of (decode input)) out) (refusing BufferTooShort out) .outcome ≡ Count m → m ≤ shortest
+      go true e = answer-count (decode input) refl m e
+      go false e = let z : _≡_ {A = ℕ} 0 1 = cc in absurd (omega arith)
 
   -- every count that the call returns is of a finished case
   pub demanded : Demanded input (call input out .outcome) (call input out .buffer)

@@ -38,47 +38,6 @@ fn scale(exponent: usize) -> u16
     1000
 }
 
-// The answer of a case with its judgement: the trial that it brings, or the one kept from the steps. It writes no record.
-fn work(case: Case) -> Solution
-    requires { ⌜ Workable case ⌝ }
-    ensures { λ r. ⌜ r ≡ worked case ⌝ }
-{
-    let n = case.n;
-    let d = scale(case.exponent);
-    let coefficients = case.coefficients;
-    let tolerances = case.tolerances;
-    let right_sides = case.right_sides;
-    let right_tolerances = case.right_tolerances;
-    let trial = case.trial;
-    if case.rounds == 0 {
-        let judgement = judge::judge(
-            n,
-            d,
-            &coefficients,
-            &tolerances,
-            &right_sides,
-            &right_tolerances,
-            &trial,
-        );
-        Solution {
-            status: solver::Status::Answered,
-            rounds: 0,
-            trial,
-            judgement,
-        }
-    } else {
-        solver::solve(
-            n,
-            d,
-            &coefficients,
-            &tolerances,
-            &right_sides,
-            &right_tolerances,
-            case.rounds,
-        )
-    }
-}
-
 fn refused(refusal: Refusal) -> Answer
     ensures { λ r. ⌜ r ≡ no-answer refusal ⌝ }
 {
@@ -140,8 +99,39 @@ pub fn answer_case(input: &[u8]) -> Answer
     if let Status::Refused(refusal) = status {
         return refused(refusal);
     }
-    let case = reading.case;
-    answered(case.n, case.exponent, work(case))
+    let n = reading.case.n;
+    let exponent = reading.case.exponent;
+    let d = scale(exponent);
+    if reading.case.rounds == 0 {
+        let trial = reading.case.trial;
+        let judgement = judge::judge(
+            n,
+            d,
+            &reading.case.coefficients,
+            &reading.case.tolerances,
+            &reading.case.right_sides,
+            &reading.case.right_tolerances,
+            &trial,
+        );
+        return Answer {
+            status: Status::Accepted,
+            n,
+            exponent,
+            rounds: 0,
+            trial,
+            judgement,
+        };
+    }
+    let solution = solver::solve(
+        n,
+        d,
+        &reading.case.coefficients,
+        &reading.case.tolerances,
+        &reading.case.right_sides,
+        &reading.case.right_tolerances,
+        reading.case.rounds,
+    );
+    answered(n, exponent, solution)
 }
 
 // Judges a case: any bytes as input, and a result buffer of any length. It returns the record's length, with the record at the buffer's front and
@@ -158,6 +148,5 @@ pub fn judge_case(input: &[u8], out: &mut [u8]) -> Outcome
         return Outcome::Refused(refusal);
     }
     let trial = a.trial;
-    let judgement = a.judgement;
-    Outcome::Count(recordfile::write_record(out, a.n, a.rounds, &trial, judgement))
+    Outcome::Count(recordfile::write_record(out, a.n, a.rounds, &trial, a.judgement))
 }

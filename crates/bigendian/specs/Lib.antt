@@ -1,4 +1,3 @@
 pub mod Number
 pub mod NumberLaws
 pub mod SignedLaws
-pub mod BufferLaws

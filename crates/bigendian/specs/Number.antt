@@ -1,7 +1,7 @@
--- Big-endian numbers of a stated count of bytes, and bytes laid over the front of a buffer.
+-- Big-endian numbers of a stated count of bytes.
 use Prim.Native.Nat.{ℕ, zero, suc, _+_, _*_, _/_, _%_, _^_}
-use mathlib.Core.List.{List, [], _∷_, _++_}
-use lib.ListN.{length, drop}
+use mathlib.Core.List.{List, [], _∷_}
+use lib.ListN.{length}
 
 -- document 01: "Numbers are big-endian". The number that the bytes s are, the highest first
 unfoldable pub be : List ℕ → ℕ
@@ -12,7 +12,3 @@ be (x ∷ s) = x * 256 ^ length s + be s
 unfoldable pub bytes : ℕ → ℕ → List ℕ
 bytes zero x = []
 bytes (suc w) x = x / 256 ^ w ∷ bytes w (x % 256 ^ w)
-
--- the list b written over the front of out; what lies beyond b stays
-abbrev pub onto : {X : Type 0} → List X → List X → List X
-onto b out = b ++ drop (length b) out

@@ -5,7 +5,8 @@ ghost use Prim.Native.Nat.{_+_, _≤_, _<_};
 ghost use lib.ListN.{length, getD, take, drop};
 ghost use mir.Syntax.{w16, w32, w64};
 ghost use mir.Val.{toZ, ofZ};
-ghost use Rattle.bigendian.specs.Number.{be, bytes, onto};
+ghost use Rattle.bigendian.specs.Number.{be, bytes};
+ghost use Rattle.buffer.specs.Buffer.{onto};
 
 fn byte(s: &[u8], at: usize) -> u16
     requires { ⌜ at < length (now s) ⌝ }

@@ -13,7 +13,7 @@ use Rattle.outcome.specs.declared.Refusal.the-variants.{OutsideLimits}
 use Rattle.outcome.specs.declared.Status.the-variants.{Accepted, Refused}
 use Rattle.outcome.specs.Outcome.{first}
 use Rattle.outcome.specs.Laws.{check-accepted, first-accepted}
-use Rattle.bigendian.specs.Number.{onto}
+use Rattle.buffer.specs.Buffer.{onto}
 use Rattle.figures.specs.FigureLaws.{and-true}
 use Rattle.fields.specs.Field.{headerSize, fieldStatus}
 use Rattle.fields.specs.FieldLaws.{field-room}

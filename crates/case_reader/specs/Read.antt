@@ -6,7 +6,7 @@ use lib.ListN.{length}
 use lib.IntN.{ℤ}
 use Rattle.outcome.specs.declared.Status.{Status}
 use Rattle.outcome.specs.declared.Status.the-variants.{Accepted}
-use Rattle.bigendian.specs.Number.{onto}
+use Rattle.buffer.specs.Buffer.{onto}
 use Rattle.casefile.specs.Case.{mostTanks}
 use Rattle.casefile.specs.Decode.{trialStatus, trialOf}
 

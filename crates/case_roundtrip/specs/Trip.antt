@@ -7,7 +7,7 @@ use lib.Dec.{leb}
 use Rattle.outcome.specs.declared.Outcome.{Outcome}
 use Rattle.outcome.specs.declared.Outcome.the-variants.{Count, Refused}
 use Rattle.outcome.specs.declared.Refusal.the-variants.{BufferTooShort}
-use Rattle.bigendian.specs.Number.{onto}
+use Rattle.buffer.specs.Buffer.{onto}
 use Rattle.casefile.specs.declared.Reading.{Reading}
 use Rattle.casefile.specs.Case.{Case}
 use Rattle.casefile.specs.Layout.{longestCase}

@@ -10,8 +10,8 @@ use Rattle.outcome.specs.declared.Refusal.{Refusal}
 use Rattle.outcome.specs.declared.Refusal.the-variants.{BufferTooShort}
 use Rattle.outcome.specs.declared.Outcome.the-variants.{Count, Refused as RefusedBy}
 use Rattle.outcome.specs.declared.Status.the-variants.{Accepted, Refused}
-use Rattle.bigendian.specs.Number.{onto}
-use Rattle.bigendian.specs.BufferLaws.{part, put, then}
+use Rattle.buffer.specs.Buffer.{onto}
+use Rattle.buffer.specs.Laws.{part, put, then}
 use Rattle.fields.specs.Field.{headerSize, field}
 use Rattle.fields.specs.FieldLaws.{length-field}
 use Rattle.casefile.specs.Case.{Case, caseStatus}

@@ -7,8 +7,9 @@ use native.Mathlib.Omega.{arith}
 use lib.ListN.{length, set, length-append}
 use lib.Seq.{drop-drop, sets-eq}
 use lib.IntN.{ℤ}
-use Rattle.bigendian.specs.Number.{bytes, onto}
-use Rattle.bigendian.specs.BufferLaws.{part, put, then}
+use Rattle.bigendian.specs.Number.{bytes}
+use Rattle.buffer.specs.Buffer.{onto}
+use Rattle.buffer.specs.Laws.{part, put, then}
 use Rattle.figures.specs.Figures.{i32, spread}
 use Rattle.figures.specs.FigureLaws.{length-spread}
 use Rattle.fields.specs.Field.{header, field}

@@ -4,7 +4,7 @@ ghost use mathlib.Core.List.{_++_, _∷_, []};
 ghost use Prim.Native.Nat.{_≤_};
 ghost use lib.ListN.{length};
 ghost use Rattle.outcome.specs.declared.Status.the-variants.{Accepted};
-ghost use Rattle.bigendian.specs.Number.{onto};
+ghost use Rattle.buffer.specs.Buffer.{onto};
 ghost use Rattle.fields.specs.Field.{field};
 ghost use Rattle.casefile.specs.Case.{mostTanks, counted, figuresFine, caseStatus};
 ghost use Rattle.casefile.specs.Layout.{headTag, endTag, longestCase, encode};

@@ -10,7 +10,7 @@ use Rattle.outcome.specs.declared.Refusal.the-variants.{OutsideLimits, Trailing
 use Rattle.outcome.specs.declared.Status.{Status}
 use Rattle.outcome.specs.declared.Status.the-variants.{Accepted, Refused}
 use Rattle.outcome.specs.Outcome.{check, first}
-use Rattle.bigendian.specs.Number.{onto}
+use Rattle.buffer.specs.Buffer.{onto}
 use Rattle.figures.specs.Figures.{i16, u16, i32, u32, upTo, within, figures, after, all}
 use Rattle.fields.specs.Field.{headerSize, valueOf, afterField, fieldStatus}
 use Rattle.casefile.specs.Case.{Case, headFine, coefficientLimit, toleranceLimit, rightSideLimit, rightToleranceLimit, trialLimit}

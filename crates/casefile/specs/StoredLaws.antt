@@ -4,7 +4,7 @@ use mathlib.Core.Path.{_≡_, refl, _∙_}
 use mathlib.Core.List.{List, [], _∷_, _++_}
 use Prim.Native.Nat.{ℕ, zero, suc, _+_, _≤_}
 use lib.ListN.{length, getD, take, drop, replicate, length-replicate}
-use Rattle.bigendian.specs.BufferLaws.{length-onto, take-onto}
+use Rattle.buffer.specs.Laws.{length-onto, take-onto}
 use Rattle.casefile.specs.Decode.{padded}
 
 module _ {X : Type 0} (z : X) where

@@ -10,7 +10,7 @@ use Rattle.outcome.specs.declared.Outcome.the-variants.{Count, Refused as Refus
 use Rattle.outcome.specs.declared.Status.{Status}
 use Rattle.outcome.specs.declared.Status.the-variants.{Accepted, Refused}
 use Rattle.outcome.specs.Outcome.{check, first}
-use Rattle.bigendian.specs.Number.{onto}
+use Rattle.buffer.specs.Buffer.{onto}
 use Rattle.casefile.specs.Case.{Case, caseStatus}
 use Rattle.casefile.specs.Layout.{encode, longestCase}
 

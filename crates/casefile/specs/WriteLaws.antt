@@ -13,9 +13,9 @@ use Rattle.outcome.specs.declared.Status.{Status}
 use Rattle.outcome.specs.declared.Status.the-variants.{Accepted, Refused}
 use Rattle.outcome.specs.Outcome.{check}
 use Rattle.outcome.specs.Laws.{check-accepted, first-accepted}
-use Rattle.bigendian.specs.Number.{onto}
+use Rattle.buffer.specs.Buffer.{onto}
 use Rattle.bigendian.specs.NumberLaws.{Bytes}
-use Rattle.bigendian.specs.BufferLaws.{length-onto, take-onto}
+use Rattle.buffer.specs.Laws.{length-onto, take-onto}
 use Rattle.casefile.specs.Case.{Case, caseStatus}
 use Rattle.casefile.specs.Layout.{longestCase, encode}
 use Rattle.casefile.specs.Decode.{accepted, decode}

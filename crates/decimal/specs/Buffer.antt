@@ -4,7 +4,8 @@ use mathlib.Core.List.{List, [], _∷_, _++_}
 use Prim.Native.Nat.{ℕ, _+_, _≤_}
 use Prim.Native.Char.{code}
 use Prim.Native.String as string
-use lib.ListN.{length, take, drop}
+use lib.ListN.{length}
+use Rattle.buffer.specs.Buffer.{onto-at}
 
 -- the bytes of a text of ASCII characters
 abbrev pub ascii : string.String → List ℕ
@@ -15,14 +16,6 @@ ascii (string._∷_ c s) = code c ∷ ascii s
 abbrev pub joined : List (List ℕ) → List ℕ
 joined [] = []
 joined (text ∷ texts) = text ++ joined texts
-
--- the list b written over the front of out; what lies beyond b stays
-abbrev pub onto : {X : Type 0} → List X → List X → List X
-onto b out = b ++ drop (length b) out
-
--- the same from the place `at` on; what lies before stays too
-abbrev pub onto-at : {X : Type 0} → ℕ → List X → List X → List X
-onto-at at b out = take at out ++ onto b (drop at out)
 
 -- a text has room from `at` on
 pub record Room (text : List ℕ) (at : ℕ) (out : List ℕ) : Type 0 where

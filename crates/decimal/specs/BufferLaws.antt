@@ -1,63 +1,12 @@
--- One write after another is one write of both texts, in either order of work; a single store is a write of one byte. Assumes nothing.
-use mathlib.Core.Path.{_≡_, refl, sym, ap, _∙_, subst}
-use mathlib.Core.List.{List, [], _∷_, _++_, append-assoc, append-nil}
+-- Writes of texts one after another, in a buffer with room for them; a single store is a write of one byte. Assumes nothing.
+use mathlib.Core.Path.{_≡_, refl, sym, ap, _∙_}
+use mathlib.Core.List.{List, [], _∷_, _++_, append-nil}
 use Prim.Native.Nat.{ℕ, _+_, _≤_, _<_}
 use native.Mathlib.Nat.{add-zero, add-assoc}
-use native.Mathlib.Numerals.{add-one}
 use native.Mathlib.Omega.{arith}
-use lib.ListN.{length, take, drop, set, length-append, length-take, length-drop, take-append-drop}
-use lib.Seq.{take-at, drop-at, drop-drop, take-take, take-append-le, length-take-le, set-split}
-use Rattle.decimal.specs.Buffer.{joined, onto-at, Room, Wrote}
-
-module _ {X : Type 0} where
-  pub length-onto-at : (at : ℕ) (b out : List X) → at + length b ≤ length out → length (onto-at at b out) ≡ length out
-  length-onto-at at b out h = simp (length-append, length-drop, length-take) (omega arith)
-
-  -- the empty text changes nothing
-  pub onto-at-none : (at : ℕ) (out : List X) → onto-at at [] out ≡ out
-  onto-at-none at out = take-append-drop at out
-
-  -- b after a
-  pub onto-at-then : (at : ℕ) (a b out : List X) → at ≤ length out → onto-at (at + length a) b (onto-at at a out) ≡ onto-at at (a ++ b) out
-  onto-at-then at a b out h =
-      let p : List X = take at out in
-      let t : List X = drop (length a) (drop at out) in
-      let n : length (p ++ a) ≡ at + length a = length-append p a ∙ rw (length-take-le at out h) in
-      let e : onto-at at a out ≡ (p ++ a) ++ t = sym (append-assoc p a t) in
-      rw (
-        e,
-        take-at (p ++ a) t (at + length a) n,
-        drop-at (p ++ a) t (at + length a) n,
-        length-append a b,
-        drop-drop (length b) (length a) (drop at out),
-        append-assoc p a (b ++ drop (length a + length b) (drop at out)),
-        append-assoc a b (drop (length a + length b) (drop at out)),
-      )
-
-  before : (at : ℕ) (a b out : List X) → at + length a ≤ length out → onto-at at a (onto-at (at + length a) b out) ≡ onto-at at (a ++ b) out
-  before at a b out h =
-      let r : ℕ = at + length a in
-      let p : List X = take r out in
-      let t : List X = b ++ drop (length b) (drop r out) in
-      let n : length p ≡ r = length-take-le r out h in
-      rw (
-        drop-drop (length a) at (p ++ t),
-        drop-at p t r n,
-        take-append-le at p t (omega arith),
-        take-take at r out (omega arith),
-        length-append a b,
-        ← (drop-drop (length a) at out),
-        drop-drop (length b) (length a) (drop at out),
-        append-assoc a b (drop (length a + length b) (drop at out)),
-      )
-
-  -- a before b, which begins at r
-  pub onto-at-before : (at r : ℕ) (a b out : List X) → at + length a ≡ r → r ≤ length out → onto-at at a (onto-at r b out) ≡ onto-at at (a ++ b) out
-  onto-at-before at r a b out e h =
-      subst (λ (k : ℕ). onto-at at a (onto-at k b out) ≡ onto-at at (a ++ b) out) e (before at a b out (omega arith))
-
-  pub set-onto-at : (at : ℕ) (d : X) (out : List X) → at < length out → set out at d ≡ onto-at at (d ∷ []) out
-  set-onto-at at d out h = set-split out at d h ∙ rw (drop-drop 1 at out, add-one at)
+use lib.ListN.{length, set, length-append}
+use Rattle.buffer.specs.Laws.{length-onto-at, onto-at-none, onto-at-then, set-onto-at}
+use Rattle.decimal.specs.Buffer.{joined, Room, Wrote}
 
 -- ---- a run of writes
 

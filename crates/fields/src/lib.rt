@@ -2,7 +2,7 @@
 ghost use mathlib.Core.Path.{_≡_};
 ghost use Prim.Native.Nat.{_≤_};
 ghost use lib.ListN.{length, drop};
-ghost use Rattle.bigendian.specs.Number.{onto};
+ghost use Rattle.buffer.specs.Buffer.{onto};
 ghost use Rattle.fields.specs.Field.{header, headerSize, fieldStatus};
 use outcome::Refusal;
 use outcome::Status;

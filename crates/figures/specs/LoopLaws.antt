@@ -9,8 +9,9 @@ use native.Mathlib.Nat.{mul-zero, mul-suc, mul-le-mul-left, sub-zero}
 use native.Mathlib.Numerals.{add-one}
 use lib.ListN.{length, getD, take, drop, set, length-set, length-take, drop-of-length-le}
 use lib.Seq.{drop-cons, drop-drop, take-suc, take-suc-set, append-snoc, take-all}
-use Rattle.bigendian.specs.Number.{be, bytes, onto}
-use Rattle.bigendian.specs.BufferLaws.{part, put, then, length-onto}
+use Rattle.bigendian.specs.Number.{be, bytes}
+use Rattle.buffer.specs.Buffer.{onto}
+use Rattle.buffer.specs.Laws.{part, put, then, length-onto}
 use Rattle.figures.specs.Figures.{Kind, figures, spread, all, Read}
 use Rattle.figures.specs.FigureLaws.{length-spread, spread-append}
 

@@ -3,7 +3,7 @@
 ghost use mathlib.Core.Path.{_≡_};
 ghost use Prim.Native.Nat.{_+_, _*_, _≤_};
 ghost use lib.ListN.{length, drop};
-ghost use Rattle.bigendian.specs.Number.{onto};
+ghost use Rattle.buffer.specs.Buffer.{onto};
 ghost use Rattle.figures.specs.Figures.{i16, u16, i32, u32, upTo, within as fits, spread, all, Read};
 
 // Whether the size of a number is at most the limit.

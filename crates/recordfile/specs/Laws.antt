@@ -11,8 +11,9 @@ use mathlib.Core.Bool.{Bool}
 use mir.Syntax.{w32, w64}
 use mir.Val.{ofZ}
 use Rattle.bigendian.specs.NumberLaws.{length-bytes}
-use Rattle.bigendian.specs.Number.{bytes, onto}
-use Rattle.bigendian.specs.BufferLaws.{put, part, then, length-onto}
+use Rattle.bigendian.specs.Number.{bytes}
+use Rattle.buffer.specs.Buffer.{onto}
+use Rattle.buffer.specs.Laws.{put, part, then, length-onto}
 use Rattle.fields.specs.Field.{field}
 use Rattle.fields.specs.FieldLaws.{length-field}
 use Rattle.judge.specs.declared.Judgement.{Judgement}

@@ -7,7 +7,8 @@ use lib.ListN.{getD}
 use lib.IntN.{ℤ, pos}
 use mir.Syntax.{w32, w64}
 use mir.Val.{ofZ}
-use Rattle.bigendian.specs.Number.{bytes, onto}
+use Rattle.bigendian.specs.Number.{bytes}
+use Rattle.buffer.specs.Buffer.{onto}
 use Rattle.fields.specs.Field.{field}
 use Rattle.judge.specs.declared.Judgement.{Judgement}
 

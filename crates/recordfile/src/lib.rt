@@ -5,7 +5,8 @@ ghost use lib.ListN.{length, getD};
 ghost use lib.IntN.{pos};
 ghost use mir.Syntax.{w32};
 ghost use mir.Val.{ofZ};
-ghost use Rattle.bigendian.specs.Number.{bytes, onto};
+ghost use Rattle.bigendian.specs.Number.{bytes};
+ghost use Rattle.buffer.specs.Buffer.{onto};
 ghost use Rattle.recordfile.specs.Layout.{flag as flagOf, pair, run, verdictField, answerField, rowsField, factorField, judgedFields, Holds, Written};
 use judge::Judgement;
 

@@ -6,7 +6,8 @@ use Prim.Native.Nat.{ℕ, zero, suc, _+_, _*_}
 use lib.Dec.{leb}
 use lib.ListN.{length, getD}
 use lib.IntN.{ℤ, pos}
-use Rattle.decimal.specs.Buffer.{ascii, joined, onto}
+use Rattle.decimal.specs.Buffer.{ascii, joined}
+use Rattle.buffer.specs.Buffer.{onto}
 use Rattle.decimal.specs.Decimal.{digits, signed, fixed-point}
 use Rattle.judge.specs.declared.Judgement.{Judgement}
 use Rattle.judge.specs.Finding.{Finding, finding}

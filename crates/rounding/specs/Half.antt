@@ -1,8 +1,8 @@
 -- The rule for halves: "a half goes away from zero, on both sides of zero". It stands here alone, on magnitudes. Nothing outside this file and
 -- the proof of the code's own test unfolds it: all laws of rounding rest on the last two laws of this file. Assumes nothing.
-use mathlib.Core.Path.{_≡_}
-use mathlib.Core.Bool.{Bool, true, false}
-use Prim.Native.Nat.{ℕ, _*_, _-_, _≤_}
+use mathlib.Core.Path.{_≡_, refl}
+use mathlib.Core.Bool.{Bool, true, false, cond}
+use Prim.Native.Nat.{ℕ, _+_, _*_, _-_, _/_, _%_, _≤_}
 use native.Mathlib.Omega.{arith}
 use lib.Dec.{leb}
 use borrow.Author.Tests.{le-leb, leb-true, leb-false}
@@ -28,3 +28,13 @@ up-half q r b e = omega (arith, leb-true (b - r) r e)
 pub stays-half : (q r b : ℕ) → rounds-up q r b ≡ false → 2 * r ≤ b
 unfolding rounds-up
 stays-half q r b e = omega (arith, leb-false (b - r) r e)
+
+-- ---- where a half of the divisor is whole: adding it carries exactly what goes up
+
+pub half-carries : (a : ℕ) → (a + 8192) / 16384 ≡ a / 16384 + cond (rounds-up (a / 16384) (a % 16384) 16384) 1 0
+unfolding rounds-up
+half-carries a = go (leb (16384 - a % 16384) (a % 16384)) refl
+  where
+    go : (up : Bool) → leb (16384 - a % 16384) (a % 16384) ≡ up → (a + 8192) / 16384 ≡ a / 16384 + cond up 1 0
+    go true e = omega (arith, leb-true (16384 - a % 16384) (a % 16384) e)
+    go false e = omega (arith, leb-false (16384 - a % 16384) (a % 16384) e)

@@ -44,3 +44,11 @@ pub fn rounded_quotient(p: i64, q: i64) -> i64
         if q < 0 { negated(m) } else { m as i64 }
     }
 }
+
+// rnd(p / 16384), the scale of the multipliers, for any p: half of it is added to the magnitude, and no remainder has to be looked at.
+pub fn rounded_by_scale(p: i64) -> i64
+    ensures { λ r. ⌜ r ≡ rnd p (pos 16384) ⌝ }
+{
+    let m = (integers::magnitude(p) + 8192) / 16384;
+    if p < 0 { negated(m) } else { m as i64 }
+}

@@ -13,8 +13,8 @@ use Rattle.outcome.specs.declared.Refusal.{Refusal}
 use Rattle.outcome.specs.declared.Status.{Status}
 use Rattle.outcome.specs.declared.Status.the-variants.{Accepted, Refused}
 use Rattle.outcome.specs.Laws.{first-stops, first-goes-on, not-both}
-use Rattle.bigendian.specs.Number.{onto}
-use Rattle.bigendian.specs.BufferLaws.{filled, length-onto}
+use Rattle.buffer.specs.Buffer.{onto}
+use Rattle.buffer.specs.Laws.{filled, length-onto}
 use Rattle.fields.specs.Field.{headerSize, valueOf}
 use Rattle.casefile.specs.Layout.{joined, rowLength, Row}
 use Rattle.casefile.specs.Decode.{rowOf, rowStatus, rowsStatus, rowsOf}

@@ -8,8 +8,8 @@ use native.Mathlib.Nat.{sub-zero, zero-mul, suc-mul, mul-le-mul-right}
 use lib.ListN.{length, take, drop, length-append, length-take, length-drop}
 use lib.Seq.{drop-drop}
 use lib.IntN.{ℤ}
-use Rattle.bigendian.specs.Number.{onto}
-use Rattle.bigendian.specs.BufferLaws.{part, put, then, length-onto}
+use Rattle.buffer.specs.Buffer.{onto}
+use Rattle.buffer.specs.Laws.{part, put, then, length-onto}
 use Rattle.figures.specs.Figures.{i16, u16, i32, u32, spread}
 use Rattle.figures.specs.FigureLaws.{length-spread}
 use Rattle.fields.specs.Field.{header, headerSize}

@@ -1,6 +1,6 @@
 // The writer of the rows of a case.
 ghost use mathlib.Core.Path.{_≡_};
-ghost use Rattle.bigendian.specs.Number.{onto};
+ghost use Rattle.buffer.specs.Buffer.{onto};
 ghost use Rattle.casefile.specs.Layout.{joined, rowField, split};
 ghost use Rattle.row_writer.specs.Room.{RowRoom, rowMade, RowsRoom};
 use fields::HEADER_SIZE;

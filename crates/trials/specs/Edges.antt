@@ -5,7 +5,7 @@ use Prim.Native.Nat.{ℕ}
 use lib.ListN.{take, drop, replicate}
 use lib.IntN.{pos}
 use Rattle.outcome.specs.declared.Outcome.the-variants.{Count}
-use Rattle.bigendian.specs.Number.{onto}
+use Rattle.buffer.specs.Buffer.{onto}
 use Rattle.casefile.specs.Case.{Case}
 use Rattle.casefile.specs.Layout.{encode}
 use Rattle.casefile.specs.Write.{leaves, given}

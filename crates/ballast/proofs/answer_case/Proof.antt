@@ -1,17 +1,18 @@
--- `ballast::answer_case` meets its contract: a refusal of the reading, or the answer worked out of the case that was read. Assumes nothing.
+-- `ballast::answer_case` meets its contract: a refusal of the reading, or the answer of the case that was read, brought or worked out.
+-- Assumes nothing.
 use mathlib.Core.Path.{_≡_, sym, ap, subst, _∙_}
 use denote.Ref.{now}
 use Rattle.outcome.specs.declared.Status.the-variants.{Accepted}
 use Rattle.casefile.specs.CaseLaws.{good, decode-fine}
 use Rattle.casefile.specs.Decode.{decode, reading}
 use Rattle.ballast.specs.Call.{Workable}
-use Rattle.ballast.specs.CallLaws.{Whole, reading-refused, reading-accepted, refusal-read, answer-read}
+use Rattle.ballast.specs.CallLaws.{Whole, reading-refused, reading-accepted, refusal-read, answer-read, worked-brought, worked-solved}
 use Rattle.ballast.specs.Theorem.{workable}
 use borrow.Author.Needs.{needs}
 use Rattle.ballast.proofs.answer_case.Statement.{statement}
 use Rattle.ballast.proofs.answer_case.Tie as tie
 
--- the case that was read is the file's
+-- the case that was read is the file's, and can be worked out
 module _ (c : tie.After-read-case) (told : c .read-case .result .status ≡ Accepted) where
   abbrev start : tie.Start
   start = c .before .before
@@ -20,6 +21,11 @@ module _ (c : tie.After-read-case) (told : c .read-case .result .status ≡ Acce
   whole =
       let w = reading-accepted (decode (now (start .args .input))) (ap (λ r. r .status) (sym (c .read-case .ensures)) ∙ told) in
       record { figures = w .figures; decoded = w .decoded; held = ap (λ r. r .case) (c .read-case .ensures) ∙ w .held }
+
+  fit : Workable (c .read-case .result .case)
+  fit =
+      subst (λ k. Workable k) (sym (whole .held))
+      (workable (whole .figures) (good (whole .figures) (decode-fine (now (start .args .input)) (whole .figures) (whole .decoded))))
 
 read-case-requires : tie.Need-read-case-requires
 read-case-requires c κs = search needs
@@ -39,18 +45,38 @@ returns c =
 enum-told : tie.Need-enum-told
 enum-told c = search needs
 
-work-requires : tie.Need-work-requires
-work-requires c κs =
-    let w = whole (c .before .before .before) (c .before .enum-told .given .1) in
-    subst (λ k. Workable k) (sym (w .held)) (workable (w .figures) (good (w .figures) (decode-fine (now (c .before .before .before .before .before .args .input)) (w .figures) (w .decoded))))
+scale-requires : tie.Need-scale-requires
+scale-requires c κs = fit (c .before .before) (c .enum-told .given .1) .exponent-small
+
+judge-requires : tie.Need-judge-requires
+judge-requires c κs =
+    let d = c .before .before .before .before .before .before .before .before .before in
+    fit (d .before .before) (d .enum-told .given .1) .rows
+
+returns-2 : tie.Need-returns-2
+returns-2 c =
+    let t = c .before .before .before .before .before .before .before .before in
+    let d = t .before .before in
+    let r = d .before .before in
+    answer-read (decode (now (r .before .before .args .input))) (r .read-case .result .case) (whole r (d .enum-told .given .1)) _
+    (worked-brought (r .read-case .result .case) _ (t .before .scale .ensures) _ (t .if1 .taken) (c .judge .ensures))
+
+solve-requires : tie.Need-solve-requires
+solve-requires c κs =
+    let d = c .before .before .before .before .before in
+    rw (d .before .scale .ensures) (fit (d .before .before .before .before) (d .before .before .enum-told .given .1) .limits)
 
 answered-requires : tie.Need-answered-requires
 answered-requires c κs = search needs
 
-returns-2 : tie.Need-returns-2
-returns-2 c =
+returns-3 : tie.Need-returns-3
+returns-3 c =
+    let t = c .before .before .before .before .before .before .before in
+    let d = t .before .before in
+    let r = d .before .before in
     c .answered .ensures
-    ∙ answer-read (decode (now (c .before .before .before .before .before .before .before .args .input))) _ (whole (c .before .before .before .before .before) (c .before .before .before .enum-told .given .1)) _ (c .before .work .ensures)
+    ∙ answer-read (decode (now (r .before .before .args .input))) (r .read-case .result .case) (whole r (d .enum-told .given .1)) _
+    (worked-solved (r .read-case .result .case) _ (t .before .scale .ensures) _ (t .if1 .left) (c .before .solve .ensures))
 
 pub answer-case-spec : {M : Type 1} → statement M
 answer-case-spec =
@@ -61,6 +87,9 @@ answer-case-spec =
     refused-requires
     returns
     enum-told
-    work-requires
+    scale-requires
+    judge-requires
+    returns-2
+    solve-requires
     answered-requires
-    returns-2)
+    returns-3)

@@ -30,17 +30,21 @@ enum-told c = search needs
 
 write-record-requires : tie.Need-write-record-requires
 write-record-requires c κs =
-    answer-recordable (now (c .before .before .before .before .before .before .before .before .before .before .args .input)) _ _ (c .before .before .before .before .before .before .answer-case .ensures) (c .before .before .before .before .enum-told .given .1) (c .before .before .before .before .before .before .before .if1 .left)
+    let e = c .before .before .before in
+    let a = e .before .before in
+    answer-recordable (now (a .before .before .before .before .args .input)) _ _ (a .answer-case .ensures) (e .enum-told .given .1) (a .before .if1 .left)
 
 same-length : tie.Need-same-length
 same-length c = search needs
 
 returns-3 : tie.Need-returns-3
 returns-3 c =
-    let a = c .before .before .before .before .before .before .before .before .before .before .before .before .before .args in
+    let e = c .before .before .before .before .before .before in
+    let a = e .before .before in
+    let x = a .before .before .before .before .args in
     let w = c .before .before .write-record .ensures in
-    promised (now (a .input)) (now (a .out)) _ _
-    (call-recorded (now (a .input)) (now (a .out)) _ _ _ (c .before .before .before .before .before .before .before .before .before .answer-case .ensures) (c .before .before .before .before .before .before .before .before .before .before .if1 .left) (c .before .before .before .before .before .before .before .enum-told .given .1) (w .count) (w .buffer))
+    promised (now (x .input)) (now (x .out)) _ _
+    (call-recorded (now (x .input)) (now (x .out)) _ _ _ (a .answer-case .ensures) (a .before .if1 .left) (e .enum-told .given .1) (w .count) (w .buffer))
 
 pub judge-case-spec : {M : Type 1} → statement M
 judge-case-spec =

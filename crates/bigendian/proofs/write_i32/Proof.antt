@@ -5,7 +5,8 @@ use Prim.Native.Nat.{ℕ}
 use denote.Ref.{now}
 use mir.Syntax.{w32}
 use mir.Facts.{toZ-ofZ}
-use Rattle.bigendian.specs.Number.{bytes, onto}
+use Rattle.bigendian.specs.Number.{bytes}
+use Rattle.buffer.specs.Buffer.{onto}
 use borrow.Author.Needs.{needs}
 use Rattle.bigendian.proofs.write_i32.Statement.{statement}
 use Rattle.bigendian.proofs.write_i32.Tie as tie

@@ -5,9 +5,10 @@ use mathlib.Core.List.{List}
 use mathlib.Core.Path.{_∙_, sym, ap}
 use Prim.Native.Nat.{ℕ}
 use denote.Ref.{now}
-use Rattle.bigendian.specs.Number.{bytes, onto}
+use Rattle.bigendian.specs.Number.{bytes}
+use Rattle.buffer.specs.Buffer.{onto}
 use Rattle.bigendian.specs.NumberLaws.{bytes-two, length-bytes}
-use Rattle.bigendian.specs.BufferLaws.{then}
+use Rattle.buffer.specs.Laws.{then}
 use borrow.Author.Needs.{needs}
 use Rattle.bigendian.proofs.write_u32.Statement.{statement}
 use Rattle.bigendian.proofs.write_u32.Tie as tie

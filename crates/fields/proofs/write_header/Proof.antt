@@ -7,7 +7,7 @@ use lib.ListN.{set, length-set}
 use lib.Seq.{sets-eq}
 use denote.Ref.{now}
 use Rattle.bigendian.specs.Number.{bytes}
-use Rattle.bigendian.specs.BufferLaws.{then}
+use Rattle.buffer.specs.Laws.{then}
 use borrow.Author.Needs.{needs}
 use Rattle.fields.proofs.write_header.Statement.{statement}
 use Rattle.fields.proofs.write_header.Tie as tie

@@ -6,9 +6,10 @@ use lib.ListN.{getD}
 use lib.IntN.{pos}
 use mir.Syntax.{w32}
 use mir.Val.{ofZ}
-use Rattle.bigendian.specs.Number.{bytes, onto}
+use Rattle.bigendian.specs.Number.{bytes}
+use Rattle.buffer.specs.Buffer.{onto}
 use Rattle.bigendian.specs.NumberLaws.{length-bytes}
-use Rattle.bigendian.specs.BufferLaws.{then}
+use Rattle.buffer.specs.Laws.{then}
 use Rattle.fields.specs.Field.{header}
 use Rattle.fields.specs.FieldLaws.{length-header, field-is-header}
 use Rattle.recordfile.specs.Layout.{run}

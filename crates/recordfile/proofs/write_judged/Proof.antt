@@ -3,7 +3,7 @@ use mathlib.Core.Path.{_≡_, refl, sym, ap, _∙_}
 use mathlib.Core.List.{List, _++_}
 use Prim.Native.Nat.{ℕ, _+_, _*_}
 use denote.Ref.{now}
-use Rattle.bigendian.specs.BufferLaws.{then}
+use Rattle.buffer.specs.Laws.{then}
 use Rattle.recordfile.specs.Layout.{verdictField, answerField, rowsField, factorField, judgedFields}
 use Rattle.recordfile.specs.Laws.{first-two, first-three, length-verdict, length-two, length-three}
 use borrow.Author.Needs.{needs}

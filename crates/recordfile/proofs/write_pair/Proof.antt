@@ -6,7 +6,7 @@ use mir.Val.{ofZ}
 use mir.Facts.{toZ-ofZ}
 use Rattle.bigendian.specs.Number.{bytes}
 use Rattle.bigendian.specs.NumberLaws.{length-bytes}
-use Rattle.bigendian.specs.BufferLaws.{then}
+use Rattle.buffer.specs.Laws.{then}
 use borrow.Author.Needs.{needs}
 use Rattle.recordfile.proofs.write_pair.Statement.{statement}
 use Rattle.recordfile.proofs.write_pair.Tie as tie

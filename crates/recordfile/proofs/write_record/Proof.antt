@@ -3,8 +3,9 @@ use mathlib.Core.Path.{_≡_, refl, ap, _∙_}
 use mathlib.Core.List.{[], _++_}
 use Prim.Native.Nat.{_+_, _*_}
 use denote.Ref.{now}
-use Rattle.bigendian.specs.Number.{bytes, onto}
-use Rattle.bigendian.specs.BufferLaws.{then}
+use Rattle.bigendian.specs.Number.{bytes}
+use Rattle.buffer.specs.Buffer.{onto}
+use Rattle.buffer.specs.Laws.{then}
 use Rattle.fields.specs.Field.{header, field}
 use Rattle.recordfile.specs.Layout.{judgedFields, recordOf}
 use Rattle.recordfile.specs.Laws.{length-judged}

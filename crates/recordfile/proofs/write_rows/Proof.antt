@@ -3,8 +3,8 @@ use mathlib.Core.Path.{_≡_, ap, _∙_}
 use Prim.Native.Nat.{_*_}
 use denote.Ref.{now}
 use lib.ListN.{length}
-use Rattle.bigendian.specs.Number.{onto}
-use Rattle.bigendian.specs.BufferLaws.{then}
+use Rattle.buffer.specs.Buffer.{onto}
+use Rattle.buffer.specs.Laws.{then}
 use Rattle.fields.specs.Field.{header}
 use Rattle.fields.specs.FieldLaws.{length-header, field-is-header}
 use lib.ListN.{getD}

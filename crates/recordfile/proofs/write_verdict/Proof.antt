@@ -6,7 +6,8 @@ use denote.Ref.{now}
 use lib.ListN.{length-set}
 use lib.Seq.{sets-eq}
 use borrow.Author.Needs.{needs}
-use Rattle.bigendian.specs.Number.{bytes, onto}
+use Rattle.bigendian.specs.Number.{bytes}
+use Rattle.buffer.specs.Buffer.{onto}
 use Rattle.fields.specs.Field.{field}
 use Rattle.recordfile.specs.Layout.{verdictField}
 use Rattle.recordfile.proofs.write_verdict.Statement.{statement}
