@@ -1,0 +1,55 @@
+-- `ballast_c::result` meets its contract, by the outcome's two cases. Assumes nothing.
+use mathlib.Core.Path.{sym, ap, _∙_}
+use Prim.Native.Nat.{_^_, _<_}
+use native.Mathlib.Omega.{arith}
+use lib.IntN.{pos, negℤ}
+use mir.Syntax.{w64}
+use mir.Facts.{toZ-ofZ, toZ-pos}
+use borrow.Author.Needs.{needs}
+use Rattle.integers.specs.Size.{sfits-size, sfits-negℤ}
+use Rattle.ballast_c.specs.Result.{number}
+use Rattle.ballast_c.specs.Laws.{below-zero, below-zero-fits}
+use Rattle.ballast_c.proofs.result.Statement.{statement}
+use Rattle.ballast_c.proofs.result.Tie as tie
+
+enum-known-outcome : tie.Need-enum-known-outcome
+enum-known-outcome c = search needs
+
+cast-result : tie.Need-cast-result
+cast-result c = sfits-size (c .before .before .before .pre .count _ (c .before .outcome .given .1))
+
+enum-known-outcome-2 : tie.Need-enum-known-outcome-2
+enum-known-outcome-2 c = search needs
+
+number-requires : tie.Need-number-requires
+number-requires c κs = search needs
+
+cast-result-2 : tie.Need-cast-result-2
+cast-result-2 c = search needs
+
+low : (c : tie.After-number) → c .number .result < 2 ^ 63
+low c = omega (arith, c .number .ok)
+
+sub-result : tie.Need-sub-result
+sub-result c = simp (toZ-pos w64 (low c)) (below-zero-fits (c .number .result) (c .number .ok))
+
+returns : tie.Need-returns
+returns c = simp (toZ-pos w64 (c .before .before .before .pre .count _ (c .before .outcome .given .1))) (ap number (sym (c .before .outcome .given .1)))
+
+returns-2 : tie.Need-returns-2
+returns-2 c =
+    let h = sfits-negℤ {w = w64} (c .number .result) (omega (arith, c .number .ok)) in
+    simp (toZ-pos w64 (low c), below-zero (c .number .result), toZ-ofZ h) (ap (λ k. negℤ (pos k)) (c .number .ensures) ∙ ap number (sym (c .before .before .outcome2 .given .1)))
+
+pub result-spec : {M : Type 1} → statement M
+result-spec =
+    tie.close
+    (tie.spec
+    enum-known-outcome
+    cast-result
+    enum-known-outcome-2
+    number-requires
+    cast-result-2
+    sub-result
+    returns
+    returns-2)

@@ -1,0 +1,128 @@
+-- The C functions' definitions as the code meets them: every count is small, and each call behind them gives what they promise. Assumes nothing.
+use mathlib.Core.Path.{_≡_, refl, sym, ap, _∙_}
+use mathlib.Core.List.{List, _++_, append-assoc}
+use Prim.Native.Nat.{ℕ, _+_, _-_, _^_, _<_, _≤_}
+use native.Mathlib.Omega.{arith}
+use borrow.Author.Tests.{le-leb, lt-leb}
+use lib.ListN.{length, take, drop, length-append, length-drop, take-append-drop}
+use lib.Seq.{drop-append-le, length-take-le}
+use lib.IntN.{ℤ, pos, negℤ, _-ℤ_}
+use mir.Syntax.{w64}
+use mir.Val.{SFits}
+use Rattle.integers.specs.Diff.{sub-parts, neg-parts}
+use Rattle.integers.specs.Order.{ints}
+use Rattle.integers.specs.Size.{fits, natAbs-subℤ}
+use Rattle.outcome.specs.declared.Refusal.{Refusal}
+use Rattle.outcome.specs.declared.Refusal.the-variants.{BufferTooShort}
+use Rattle.outcome.specs.declared.Outcome.{Outcome}
+use Rattle.outcome.specs.declared.Outcome.the-variants.{Count, Refused}
+use Rattle.buffer.specs.Buffer.{onto}
+use Rattle.casefile.specs.declared.Case.{Case}
+use Rattle.casefile.specs.Case.{Case as Figures}
+use Rattle.casefile.specs.Layout.{encode, longestCase}
+use Rattle.casefile.specs.Decode.{Decoded, accepted, refused, decode, stored}
+use Rattle.casefile.specs.CaseLaws.{good, decode-fine, longest}
+use Rattle.casefile.specs.Write.{leaves, write}
+use Rattle.casefile.specs.WriteLaws.{counts, write-accepted}
+use Rattle.report.specs.Text.{text-room, Printed}
+use Rattle.verdict_text.specs.Verdict.{verdict-of}
+use Rattle.ballast.specs.Call.{answer-of, call}
+use Rattle.ballast.specs.CallLaws.{Whole}
+use Rattle.ballast.specs.Demand.{Promise}
+use Rattle.ballast.specs.Theorem.{count-le}
+use Rattle.ballast_c.specs.Result.{number, Small, Returned, number-count}
+use Rattle.ballast_c.specs.Calls.{tanks, text-call, Judged}
+
+-- ---- the result number
+
+pub below-zero : (k : ℕ) → pos 0 -ℤ pos k ≡ negℤ (pos k)
+below-zero k = omega (arith, ints, sub-parts (pos 0) (pos k), neg-parts (pos k))
+
+pub below-zero-fits : (k : ℕ) → k < 2 ^ 8 → SFits w64 (pos 0 -ℤ pos k)
+below-zero-fits k h = omega (arith, fits, natAbs-subℤ (pos 0) (pos k))
+
+pub small-refused : (r : Refusal) → Small (Refused r)
+small-refused r = record { count = λ m e. let z : _≡_ {A = ℕ} 0 1 = cc in absurd (omega arith) }
+
+pub small-count : (k : ℕ) → k ≤ 800 → Small (Count k)
+small-count k h = record { count = λ m e. let q : k ≡ m = cc in omega arith }
+
+-- ---- reading
+
+pub tanks-refused : (d : Decoded) (r : Refusal) → d ≡ refused r → Refused r ≡ tanks d
+unfolding tanks
+tanks-refused d r e = rw e
+
+pub tanks-accepted : (d : Decoded) (c : Case) → Whole d c → Count (c .n) ≡ tanks d
+unfolding tanks stored
+tanks-accepted d c w = rw (w .held, w .decoded)
+
+pub few-tanks : (input : List ℕ) (c : Case) → Whole (decode input) c → c .n ≤ 800
+unfolding stored
+few-tanks input c w = rw (w .held) (omega (arith, good (w .figures) (decode-fine input (w .figures) (w .decoded)) .small))
+
+-- ---- judging
+
+module _ (input entry exit : List ℕ) (o : Outcome) (p : Promise input entry o exit) where
+  pub judged-small : Small o
+  judged-small =
+      record { count = λ m e. omega (arith, count-le input entry m (ap (λ w. w .outcome) (sym (p .called)) ∙ e)) }
+
+  pub judged : (r : ℤ) → r ≡ number o → Judged input entry r exit
+  judged r e =
+      record {
+        called = record { is = e ∙ ap (λ w. number (w .outcome)) (p .called); buffer = ap (λ w. w .buffer) (p .called) };
+        demand = λ m q. p .demand m (number-count o m (sym e ∙ q));
+      }
+
+-- ---- writing
+
+module _ (c : Figures) (entry exit : List ℕ) (o : Outcome) (p : leaves o exit ≡ write c entry) where
+  pub written-small : Small o
+  written-small =
+      record {
+        count = λ m e.
+            let w = counts c entry m (ap (λ x. x .outcome) (sym p) ∙ e) in
+            omega (arith, w .1, longest c (write-accepted c (length entry) (w .0) .1));
+      }
+
+  pub written : (r : ℤ) → r ≡ number o → Returned r exit (write c entry)
+  written r e = record { is = e ∙ ap (λ w. number (w .outcome)) p; buffer = ap (λ w. w .buffer) p }
+
+-- ---- the printed verdict, into the buffer's first bytes
+
+-- a write over the front of a buffer's first bytes is one over the buffer's front
+within-front : (k : ℕ) (t out : List ℕ) → length t ≤ k → k ≤ length out → onto t (take k out) ++ drop k out ≡ onto t out
+within-front k t out h l =
+    let n : length (take k out) ≡ k = length-take-le k out l in
+    append-assoc t (drop (length t) (take k out)) (drop k out)
+    ∙ ap (λ r. t ++ r) (sym (drop-append-le (length t) (take k out) (drop k out) (omega arith)) ∙ ap (drop (length t)) (take-append-drop k out))
+
+module _ (input out : List ℕ) where
+  pub text-short : (r : ℤ) → length out < text-room → r ≡ number (Refused BufferTooShort) → Returned r out (text-call input out)
+  unfolding text-call
+  text-short r h e = rw (lt-leb text-room (length out) h) (record { is = e; buffer = refl })
+
+  module _ (count : ℕ) (after : List ℕ) (h : text-room ≤ length out) (same : length after ≡ length (take text-room out))
+      (p : Printed (verdict-of (length (take text-room out)) (answer-of (decode input))) (take text-room out) count after) where
+    abbrev t : List ℕ
+    t = verdict-of text-room (answer-of (decode input))
+
+    front : Printed t (take text-room out) count after
+    front = rw (length-take-le text-room out h) at p
+
+    -- what was written over a part's front is no longer than the part
+    pub text-le : count ≤ text-room
+    text-le =
+        let l : length after ≡ length t + (text-room - length t) =
+        ap length (front .bytes) ∙ simp (length-append, length-drop, length-take-le text-room out h) in
+        omega (arith, front .size, same, length-take-le text-room out h)
+
+    pub text-written : (r : ℤ) → r ≡ number (Count count) → Returned r (after ++ drop text-room out) (text-call input out)
+    unfolding text-call
+    text-written r e =
+        rw (le-leb text-room (length out) h)
+        (record {
+          is = e ∙ ap pos (front .size);
+          buffer = rw (front .bytes) (within-front text-room t out (omega (arith, front .size, text-le)) h);
+        })

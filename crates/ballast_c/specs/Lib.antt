@@ -1,0 +1,3 @@
+pub mod Result
+pub mod Calls
+pub mod Laws

@@ -1,0 +1,81 @@
+// What a program in C or Rust links: the calls on numbers and byte slices, each with one result number. `include/ballast.h` declares them.
+ghost use mathlib.Core.Path.{_≡_};
+ghost use Rattle.casefile.specs.Decode.{decode};
+ghost use Rattle.casefile.specs.Write.{given, write};
+ghost use Rattle.ballast_c.specs.Result.{number, Small, Returned};
+ghost use Rattle.ballast_c.specs.Calls.{tanks, text-call, Judged};
+use outcome::Outcome;
+use outcome::Status;
+
+// A count, or a refusal's number below zero.
+fn result(outcome: Outcome) -> i64
+    requires { ⌜ Small outcome ⌝ }
+    ensures { λ r. ⌜ r ≡ number outcome ⌝ }
+{
+    match outcome {
+        Outcome::Count(count) => count as i64,
+        Outcome::Refused(refusal) => 0 - (outcome::number(refusal) as i64),
+    }
+}
+
+// The number of tanks of a case, or the reader's refusal.
+#[no_mangle]
+pub extern "C" fn ballast_check_case(input: &[u8]) -> i64
+    ensures { λ r. ⌜ r ≡ number (tanks (decode (now (input .entry)))) ⌝ }
+{
+    let reading = case_reader::read_case(input);
+    let status = reading.status;
+    if let Status::Refused(refusal) = status {
+        return result(Outcome::Refused(refusal));
+    }
+    let case = reading.case;
+    result(Outcome::Count(case.n))
+}
+
+// Judges a case into a buffer.
+#[no_mangle]
+pub extern "C" fn ballast_judge_case(input: &[u8], out: &mut [u8]) -> i64
+    ensures { λ r. ⌜ Judged (now (input .entry)) (now (out .entry)) r (now (out .exit)) ⌝ }
+{
+    result(ballast::judge_case(input, out))
+}
+
+// Renders the printed verdict of a case. A buffer shorter than the longest text is refused before the case is read.
+#[no_mangle]
+pub extern "C" fn ballast_verdict_text(input: &[u8], out: &mut [u8]) -> i64
+    ensures { λ r. ⌜ Returned r (now (out .exit)) (text-call (now (input .entry)) (now (out .entry))) ⌝ }
+{
+    if out.len() < report::TEXT_ROOM {
+        return result(Outcome::Refused(outcome::Refusal::BufferTooShort));
+    }
+    let count = verdict_text::verdict_text(input, &mut out[..report::TEXT_ROOM]);
+    result(Outcome::Count(count))
+}
+
+// Writes a case into a buffer.
+#[no_mangle]
+pub extern "C" fn ballast_write_case(
+    n: usize,
+    exponent: usize,
+    rounds: usize,
+    coefficients: &[i16],
+    tolerances: &[u16],
+    right_sides: &[i32],
+    right_tolerances: &[u32],
+    trial: &[i32],
+    out: &mut [u8],
+) -> i64
+    ensures { λ r. ⌜ Returned r (now (out .exit)) (write (given n exponent rounds (now (coefficients .entry)) (now (tolerances .entry)) (now («right_sides» .entry)) (now («right_tolerances» .entry)) (now (trial .entry))) (now (out .entry))) ⌝ }
+{
+    result(case_writer::write_case(
+        n,
+        exponent,
+        rounds,
+        coefficients,
+        tolerances,
+        right_sides,
+        right_tolerances,
+        trial,
+        out,
+    ))
+}
