@@ -1,0 +1,96 @@
+//! Sound cases that chance would hardly find.
+
+use crate::figures::{Figures, List, MOST_ANSWER, MOST_RIGHT_SIDE, MOST_ROUNDS};
+use crate::random::Random;
+
+/// Gives the first two rows factors that only exact arithmetic can tell apart: |residual| / reach of the one and of the other are
+/// neighbouring convergents of a continued fraction, so that their cross products differ by 1.
+pub fn neighbouring_factors(figures: &mut Figures, random: &mut Random) {
+    figures.rounds = 0;
+    figures.trial = List::default();
+    figures.trial[0] = 1;
+    for i in 0..figures.n {
+        set_factor(figures, i, 0, random.between(0, 9));
+    }
+    let (former, latter) = neighbours(MOST_RIGHT_SIDE * figures.unit(), random);
+    let mut pair = [former, latter];
+    pair.rotate_left(random.below(2));
+    for (i, (residual, reach)) in pair.into_iter().enumerate().take(figures.n) {
+        set_factor(figures, i, random.pick(&[1, -1]) * residual, reach);
+    }
+}
+
+/// Two neighbouring convergents, as (numerator, denominator), of a continued fraction with small quotients.
+fn neighbours(most: i64, random: &mut Random) -> ((i64, i64), (i64, i64)) {
+    let largest_quotient = random.between(1, 4);
+    let (mut former, mut latter) = ((1, 0), (random.between(0, 2), 1));
+    for _ in 0..random.between(1, 70) {
+        let quotient = random.between(1, largest_quotient);
+        let next = (
+            quotient * latter.0 + former.0,
+            quotient * latter.1 + former.1,
+        );
+        if next.0.max(next.1) > most {
+            break;
+        }
+        (former, latter) = (latter, next);
+    }
+    (former, latter)
+}
+
+/// Gives row `i` this residual and reach for the trial that is 1 in the first tank and 0 in all others.
+fn set_factor(figures: &mut Figures, i: usize, residual: i64, reach: i64) {
+    let unit = figures.unit();
+    figures.right_sides[i] = residual / unit;
+    figures.coefficients[i][0] = -(residual % unit);
+    figures.right_tolerances[i] = reach / unit;
+    figures.tolerances[i][0] = reach % unit;
+}
+
+/// Makes the first two tanks nearly dependent, so that the second pivot's rounding error is as large as the pivot, and the first round's
+/// answer nearly the largest allowed. Later corrections then overshoot: they can pass the answer's limit while the new answer does not.
+pub fn overshooting(figures: &mut Figures, random: &mut Random) {
+    let pivot = random.between(20_000, 32_767);
+    let beside = random.between(20_000, pivot);
+    let below = random.between(1, pivot);
+    let last = rounded(below as f64 * beside as f64 / pivot as f64);
+    let multiplier = rounded(16_384.0 * below as f64 / pivot as f64);
+    let second_pivot = last as f64 - multiplier as f64 * beside as f64 / 16_384.0;
+    let first_answer = random.between(MOST_ANSWER / 2, MOST_ANSWER) as f64;
+
+    *figures = Figures {
+        n: figures.n.max(2),
+        exponent: figures.exponent,
+        rounds: random.between(2, MOST_ROUNDS as i64) as usize,
+        ..Figures::default()
+    };
+    for i in 2..figures.n {
+        figures.coefficients[i][i] = random.between(1, 99);
+    }
+    figures.coefficients[0][..2].copy_from_slice(&[pivot, beside]);
+    figures.coefficients[1][..2].copy_from_slice(&[below, last]);
+    figures.right_sides[1] = rounded(first_answer * second_pivot / figures.unit() as f64);
+    let place = random.below(figures.n);
+    figures.coefficients.swap(0, place);
+    figures.right_sides.swap(0, place);
+}
+
+/// The second round of this case takes the second answer figure from one limit to the other, by the largest correction allowed. A slightly
+/// different right side leads just beyond.
+pub fn largest_correction(figures: &mut Figures, random: &mut Random) {
+    let sign = random.pick(&[1, -1]);
+    let most_change = random.pick(&[0, 500]);
+    *figures = Figures {
+        n: 2,
+        rounds: random.between(2, MOST_ROUNDS as i64) as usize,
+        ..Figures::default()
+    };
+    figures.coefficients[0][..2].copy_from_slice(&[29_539, 21_583]);
+    figures.coefficients[1][..2].copy_from_slice(&[103, 75]);
+    figures.right_sides[0] = sign * (362_747_091 + random.within(most_change));
+    figures.right_sides[1] = sign * 402_624;
+}
+
+fn rounded(value: f64) -> i64 {
+    value.round() as i64
+}

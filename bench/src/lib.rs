@@ -1,0 +1,13 @@
+//! A second implementation of the judge ("twin"), and the inputs on which it meets the proved library.
+//!
+//! The twin is written from document 01 alone and shares no code with the library.
+#![forbid(unsafe_code)]
+
+pub mod coefficients;
+pub mod corners;
+pub mod figures;
+pub mod inputs;
+pub mod pool;
+pub mod random;
+pub mod spoiling;
+pub mod twin;

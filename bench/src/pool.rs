@@ -1,0 +1,89 @@
+//! Cases for measuring: sound, refused by neither contestant, and with a known number of rounds.
+
+use crate::coefficients::{coefficients, table, Style};
+use crate::figures::{Figures, MOST_RIGHT_SIDE, MOST_ROUNDS};
+use crate::random::Random;
+use crate::twin::{self, MOST_TANKS, RECORD_ROOM};
+
+pub const POOL_SIZE: usize = 256;
+/// The numbers of tanks and rounds that are measured.
+pub const TANKS: [usize; 4] = [1, 2, 4, 8];
+pub const ROUNDS: [usize; 3] = [0, 1, 8];
+
+/// What the pools hold, for a reader of the figures.
+pub const DESCRIPTION: &str = "\
+Cases: half with one large coefficient in each row and column, half with coefficients from the full range; 0 to 3 decimals.
+K = 0 judges the trial that 8 rounds work out; K = 1 has one round; both have tolerances from zero to small.
+K = 8 really uses all 8 rounds: the tolerances are zero, or 1 on the right side only, and no round's answer is met.";
+
+pub struct Entry {
+    pub figures: Figures,
+    pub bytes: Vec<u8>,
+}
+
+/// The pool of one cell; it depends on nothing but these three numbers.
+pub fn pool(n: usize, rounds: usize, seed: u64) -> Vec<Entry> {
+    let mut random = Random::new(seed ^ ((n as u64) << 32) ^ ((rounds as u64) << 40));
+    let mut entries = Vec::with_capacity(POOL_SIZE);
+    while entries.len() < POOL_SIZE {
+        let figures = candidate(n, rounds, entries.len(), &mut random);
+        entries.extend(accepted(figures));
+    }
+    entries
+}
+
+fn candidate(n: usize, rounds: usize, place: usize, random: &mut Random) -> Figures {
+    let style = [Style::Dominant, Style::Full][place % 2];
+    let mut figures = Figures {
+        n,
+        rounds,
+        exponent: random.below(4),
+        coefficients: coefficients(style, n, random),
+        ..Figures::default()
+    };
+    for i in 0..n {
+        figures.right_sides[i] = right_side(&figures.coefficients[i], random);
+    }
+    if rounds == MOST_ROUNDS {
+        figures.right_tolerances = [(place / 2 % 2) as i64; MOST_TANKS];
+    } else {
+        figures.right_tolerances = [(); MOST_TANKS].map(|_| random.between(0, 50));
+        figures.tolerances = table(n, |_, _| random.between(0, 2));
+    }
+    figures
+}
+
+/// A moment of up to about 3,000 tonnes in each tank.
+fn right_side(coefficients: &[i64], random: &mut Random) -> i64 {
+    let sum: i64 = coefficients
+        .iter()
+        .map(|coefficient| coefficient * random.within(3000))
+        .sum();
+    (sum + random.within(99)).clamp(-MOST_RIGHT_SIDE, MOST_RIGHT_SIDE)
+}
+
+/// The candidate with its trial, if it brings one, provided that it is finished in the way the description says.
+fn accepted(mut figures: Figures) -> Option<Entry> {
+    let wanted = figures.rounds;
+    if wanted == 0 {
+        figures.rounds = MOST_ROUNDS;
+        let record = record(&figures.encode())?;
+        for (i, bytes) in record[9..].chunks_exact(4).take(figures.n).enumerate() {
+            let figure = i32::from_be_bytes([bytes[0], bytes[1], bytes[2], bytes[3]]);
+            figures.trial[i] = i64::from(figure);
+        }
+        figures.rounds = 0;
+    }
+    let bytes = figures.encode();
+    let [.., met, _, used] = record(&bytes)?[..6] else {
+        return None;
+    };
+    let fits = usize::from(used) == wanted && (met == 0 || wanted < MOST_ROUNDS);
+    fits.then_some(Entry { figures, bytes })
+}
+
+fn record(case: &[u8]) -> Option<[u8; RECORD_ROOM]> {
+    let mut out = [0; RECORD_ROOM];
+    twin::judge_case(case, &mut out).ok()?;
+    Some(out)
+}

@@ -1,0 +1,50 @@
+//! Rounds of refinement: correct and judge until the case is met or its rounds are used.
+
+use super::elimination::Elimination;
+use super::judging::Judgement;
+use super::reading::{Case, MOST_ANSWER};
+use super::{Refusal, MOST_TANKS, OUTSIDE_RANGE};
+
+/// An answer with its judgement.
+pub struct Answer {
+    pub figures: [i64; MOST_TANKS],
+    pub judgement: Judgement,
+    pub rounds_used: u8,
+}
+
+impl Answer {
+    /// The trial that the case brings, or zero, from which the rounds start.
+    pub fn start(case: &Case) -> Self {
+        Answer {
+            figures: case.trial,
+            judgement: Judgement::of(case, case.trial()),
+            rounds_used: 0,
+        }
+    }
+
+    /// Each round starts from the residuals with which the round before it was judged.
+    pub fn refine(&mut self, case: &Case) -> Result<(), Refusal> {
+        let mut elimination = Elimination::start(case);
+        elimination.finish()?;
+        for round in 1..=case.rounds {
+            let correction = elimination.correction(&self.judgement.residuals)?;
+            self.add(&correction[..case.n])?;
+            self.judgement.judge(case, &self.figures[..case.n]);
+            self.rounds_used = round;
+            if self.judgement.is_met() {
+                break;
+            }
+        }
+        Ok(())
+    }
+
+    fn add(&mut self, correction: &[i64]) -> Result<(), Refusal> {
+        for (y, d) in self.figures.iter_mut().zip(correction) {
+            *y += d;
+            if y.abs() > MOST_ANSWER {
+                return Err(OUTSIDE_RANGE);
+            }
+        }
+        Ok(())
+    }
+}

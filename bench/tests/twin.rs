@@ -1,0 +1,249 @@
+//! The twin against document 01's trials at the edges and the repository's samples.
+
+use bench::figures::Figures;
+use bench::twin::{check_case, judge_case, RECORD_ROOM};
+use std::fmt::Write;
+use std::fs;
+use std::path::Path;
+
+/// The printed verdict, as document 01 gives it.
+fn printed(case: &[u8]) -> String {
+    let mut record = [0; RECORD_ROOM];
+    match judge_case(case, &mut record) {
+        Err(refusal) => format!("refused {refusal}\n"),
+        Ok(length) => printed_record(&record[..length], u32::from(case[4])),
+    }
+}
+
+fn printed_record(record: &[u8], exponent: u32) -> String {
+    let n = record.len() / 20 - 1;
+    let mut text = format!(
+        "{} row {} rounds {}\n",
+        if record[3] == 1 { "met" } else { "unmet" },
+        record[4],
+        record[5]
+    );
+    for (tank, bytes) in record[9..][..4 * n].chunks_exact(4).enumerate() {
+        let y = i32::from_be_bytes(bytes.try_into().unwrap());
+        writeln!(text, "answer {} {}", tank + 1, printed_answer(y, exponent)).unwrap();
+    }
+    for (row, bytes) in record[12 + 4 * n..][..16 * n].chunks_exact(16).enumerate() {
+        let residual = i64::from_be_bytes(bytes[..8].try_into().unwrap());
+        let reach = u64::from_be_bytes(bytes[8..].try_into().unwrap());
+        writeln!(text, "row {} residual {residual} reach {reach}", row + 1).unwrap();
+    }
+    let [none, row] = record[15 + 20 * n..][..2] else {
+        unreachable!()
+    };
+    writeln!(
+        text,
+        "factor {}row {row}",
+        if none == 1 { "none " } else { "" }
+    )
+    .unwrap();
+    text
+}
+
+fn printed_answer(y: i32, exponent: u32) -> String {
+    let unit = 10_u32.pow(exponent);
+    let sign = if y < 0 { "-" } else { "" };
+    let whole = y.unsigned_abs() / unit;
+    match exponent as usize {
+        0 => format!("{sign}{whole}"),
+        width => format!("{sign}{whole}.{:0width$}", y.unsigned_abs() % unit),
+    }
+}
+
+/// One tank: the case with exponent, rounds, A, E, b, f and, for no rounds, the trial.
+fn one_tank(exponent: usize, rounds: usize, a: i64, e: i64, b: i64, f: i64, trial: i64) -> Vec<u8> {
+    let mut figures = Figures {
+        n: 1,
+        exponent,
+        rounds,
+        ..Figures::default()
+    };
+    figures.coefficients[0][0] = a;
+    figures.tolerances[0][0] = e;
+    figures.right_sides[0] = b;
+    figures.right_tolerances[0] = f;
+    figures.trial[0] = trial;
+    figures.encode()
+}
+
+/// Two tanks without tolerances and decimals, one round.
+fn two_tanks(rows: [[i64; 2]; 2], right_sides: [i64; 2]) -> Vec<u8> {
+    let mut figures = Figures {
+        n: 2,
+        rounds: 1,
+        ..Figures::default()
+    };
+    for i in 0..2 {
+        figures.coefficients[i][..2].copy_from_slice(&rows[i]);
+        figures.right_sides[i] = right_sides[i];
+    }
+    figures.encode()
+}
+
+fn check_printed<const COUNT: usize>(trials: [(Vec<u8>, &str); COUNT]) {
+    for (case, expected) in trials {
+        assert_eq!(printed(&case), expected);
+    }
+}
+
+#[test]
+fn one_tank_worked_out() {
+    check_printed([
+        (
+            one_tank(1, 1, 5, 0, -2, 0, 0),
+            "met row 0 rounds 1\nanswer 1 -0.4\nrow 1 residual 0 reach 0\nfactor row 1\n",
+        ),
+        (
+            one_tank(1, 1, 3, 0, 1, 1, 0),
+            "met row 0 rounds 1\nanswer 1 0.3\nrow 1 residual 1 reach 10\nfactor row 1\n",
+        ),
+        (
+            one_tank(1, 1, 3, 0, 1, 0, 0),
+            "unmet row 1 rounds 1\nanswer 1 0.3\nrow 1 residual 1 reach 0\nfactor none row 1\n",
+        ),
+        (
+            one_tank(1, 1, 3, 1, 1, 0, 0),
+            "met row 0 rounds 1\nanswer 1 0.3\nrow 1 residual 1 reach 3\nfactor row 1\n",
+        ),
+        (
+            one_tank(1, 1, 3, 0, -1, 1, 0),
+            "met row 0 rounds 1\nanswer 1 -0.3\nrow 1 residual -1 reach 10\nfactor row 1\n",
+        ),
+        (
+            one_tank(0, 1, 2, 0, 1, 1, 0),
+            "met row 0 rounds 1\nanswer 1 1\nrow 1 residual -1 reach 1\nfactor row 1\n",
+        ),
+    ]);
+}
+
+#[test]
+fn one_tank_brought() {
+    check_printed([
+        (
+            one_tank(0, 0, 2, 1, 4, 0, 1),
+            "unmet row 1 rounds 0\nanswer 1 1\nrow 1 residual 2 reach 1\nfactor row 1\n",
+        ),
+        (
+            one_tank(0, 0, 2, 5, 1, 0, 0),
+            "unmet row 1 rounds 0\nanswer 1 0\nrow 1 residual 1 reach 0\nfactor none row 1\n",
+        ),
+    ]);
+}
+
+#[test]
+fn one_tank_refused() {
+    check_printed([
+        (one_tank(0, 1, 1, 0, 1_000_000_000, 0, 0), "refused 9\n"),
+        (one_tank(0, 1, -32_768, 0, 1, 0, 0), "refused 6\n"),
+        (vec![], "refused 2\n"),
+    ]);
+}
+
+#[test]
+fn two_tank_trials() {
+    for (case, expected) in [
+        (
+            two_tanks([[0, 1], [1, 0]], [5, 7]),
+            "met row 0 rounds 1\nanswer 1 7\nanswer 2 5\n",
+        ),
+        (
+            two_tanks([[2, 1], [1, 3]], [5, 10]),
+            "met row 0 rounds 1\nanswer 1 1\nanswer 2 3\n",
+        ),
+    ] {
+        let rows = "row 1 residual 0 reach 0\nrow 2 residual 0 reach 0\nfactor row 1\n";
+        assert_eq!(printed(&case), expected.to_string() + rows);
+    }
+    assert_eq!(printed(&two_tanks([[1, 1], [1, 1]], [5, 7])), "refused 8\n");
+}
+
+#[test]
+fn the_largest_correction_is_allowed() {
+    let mut figures = Figures {
+        n: 2,
+        rounds: 2,
+        ..Figures::default()
+    };
+    figures.coefficients[0][..2].copy_from_slice(&[29_539, 21_583]);
+    figures.coefficients[1][..2].copy_from_slice(&[103, 75]);
+    figures.right_sides[..2].copy_from_slice(&[362_747_091, 402_624]);
+    assert!(printed(&figures.encode()).contains("rounds 2\nanswer 1 7318892\nanswer 2 -10000000\n"));
+    figures.rounds = 1;
+    assert!(printed(&figures.encode()).contains("rounds 1\nanswer 1 -7294331\nanswer 2 10000000\n"));
+}
+
+#[test]
+fn limits_of_buffer_and_tanks() {
+    let case = one_tank(1, 1, 5, 0, -2, 0, 0);
+    assert_eq!(judge_case(&case, &mut [0; 179]), Err(1));
+    assert_eq!(judge_case(&case, &mut [0; 180]), Ok(40));
+    assert_eq!(
+        check_case(
+            &Figures {
+                n: 8,
+                rounds: 1,
+                ..Figures::default()
+            }
+            .encode()
+        ),
+        Ok(8)
+    );
+    assert_eq!(check_case(&[1, 0, 3, 9, 0, 1]), Err(6));
+    assert_eq!(
+        Figures {
+            n: 8,
+            ..Figures::default()
+        }
+        .encode()
+        .len(),
+        388
+    );
+}
+
+#[test]
+fn a_refusal_changes_no_byte_and_a_record_no_byte_beyond_it() {
+    let mut out = [0xA5; 200];
+    assert_eq!(
+        judge_case(&one_tank(0, 1, 1, 0, 1_000_000_000, 0, 0), &mut out),
+        Err(9)
+    );
+    assert_eq!(out, [0xA5; 200]);
+    assert_eq!(
+        judge_case(&one_tank(1, 1, 5, 0, -2, 0, 0), &mut out),
+        Ok(40)
+    );
+    assert_eq!(
+        out[..16],
+        [0x10, 0, 3, 1, 0, 1, 0x11, 0, 4, 0xFF, 0xFF, 0xFF, 0xFC, 0x12, 0, 0x10]
+    );
+    assert_eq!(out[16..32], [0; 16]);
+    assert_eq!(out[32..40], [0x13, 0, 2, 0, 1, 0xFF, 0, 0]);
+    assert_eq!(out[40..], [0xA5; 160]);
+}
+
+#[test]
+fn samples() {
+    let folder = Path::new(env!("CARGO_MANIFEST_DIR")).join("../samples");
+    let mut count = 0;
+    for entry in fs::read_dir(folder).unwrap() {
+        let path = entry.unwrap().path();
+        if path
+            .extension()
+            .is_some_and(|extension| extension == "case")
+        {
+            let expected = fs::read_to_string(path.with_extension("txt")).unwrap();
+            assert_eq!(
+                printed(&fs::read(&path).unwrap()),
+                expected,
+                "{}",
+                path.display()
+            );
+            count += 1;
+        }
+    }
+    assert!(count > 0, "no samples found");
+}
