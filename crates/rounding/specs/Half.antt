@@ -29,12 +29,15 @@ pub stays-half : (q r b : ℕ) → rounds-up q r b ≡ false → 2 * r ≤ b
 unfolding rounds-up
 stays-half q r b e = omega (arith, leb-false (b - r) r e)
 
--- ---- where a half of the divisor is whole: adding it carries exactly what goes up
+-- ---- by the multipliers' scale, whose half is whole: with this added, the division carries exactly what goes up
 
-pub half-carries : (a : ℕ) → (a + 8192) / 16384 ≡ a / 16384 + cond (rounds-up (a / 16384) (a % 16384) 16384) 1 0
+abbrev pub with-half : ℕ → ℕ
+with-half a = a + 8192
+
+pub half-carries : (a : ℕ) → with-half a / 16384 ≡ a / 16384 + cond (rounds-up (a / 16384) (a % 16384) 16384) 1 0
 unfolding rounds-up
 half-carries a = go (leb (16384 - a % 16384) (a % 16384)) refl
   where
-    go : (up : Bool) → leb (16384 - a % 16384) (a % 16384) ≡ up → (a + 8192) / 16384 ≡ a / 16384 + cond up 1 0
+    go : (up : Bool) → leb (16384 - a % 16384) (a % 16384) ≡ up → with-half a / 16384 ≡ a / 16384 + cond up 1 0
     go true e = omega (arith, leb-true (16384 - a % 16384) (a % 16384) e)
     go false e = omega (arith, leb-false (16384 - a % 16384) (a % 16384) e)

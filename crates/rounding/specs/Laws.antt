@@ -11,7 +11,7 @@ use lib.Signed.{ltZ}
 use Rattle.integers.specs.Diff.{abs-parts, one-side, sub-parts, neg-parts}
 use Rattle.integers.specs.Ring.{negℤ-*ℤ, *ℤ-negℤ}
 use Rattle.integers.specs.Size.{natAbs-negℤ, sfits-size}
-use Rattle.rounding.specs.Half.{rounds-up, up-half, stays-half, half-carries}
+use Rattle.rounding.specs.Half.{rounds-up, up-half, stays-half, with-half, half-carries}
 use Rattle.rounding.specs.Round.{one-if, near, rnd, Defined}
 
 -- ---- of naturals: within half of the divisor
@@ -162,7 +162,7 @@ defined p q h k =
 
 -- ---- by the multipliers' scale, whose half is whole
 
-near-scale : (a : ℕ) → near a 16384 ≡ (a + 8192) / 16384
+near-scale : (a : ℕ) → near a 16384 ≡ with-half a / 16384
 unfolding near
 near-scale a = ap (λ k. a / 16384 + k) (one (rounds-up (a / 16384) (a % 16384) 16384)) ∙ sym (half-carries a)
   where
@@ -170,5 +170,5 @@ near-scale a = ap (λ k. a / 16384 + k) (one (rounds-up (a / 16384) (a % 16384) 
     one true = refl
     one false = refl
 
-pub rnd-scale : (p : ℤ) → rnd p (pos 16384) ≡ cond (ltZ p (pos 0)) (negℤ (pos ((natAbs p + 8192) / 16384))) (pos ((natAbs p + 8192) / 16384))
+pub rnd-scale : (p : ℤ) → rnd p (pos 16384) ≡ cond (ltZ p (pos 0)) (negℤ (pos (with-half (natAbs p) / 16384))) (pos (with-half (natAbs p) / 16384))
 rnd-scale p = rw (← near-scale (natAbs p)) (rnd-signs p (pos 16384))

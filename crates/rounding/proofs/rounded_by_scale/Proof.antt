@@ -10,6 +10,7 @@ use mir.Val.{toZ, ofZ}
 use mir.Facts.{toZ-ofZ, toZ-pos}
 use borrow.Author.Needs.{needs}
 use Rattle.integers.specs.Size.{size-sfits, sfits-negℤ}
+use Rattle.rounding.specs.Half.{with-half}
 use Rattle.rounding.specs.Round.{rnd}
 use Rattle.rounding.specs.Laws.{rnd-scale}
 use Rattle.rounding.proofs.rounded_by_scale.Statement.{statement}
@@ -29,7 +30,7 @@ module _ (c : tie.After-magnitude) where
   size-le = omega (arith, size-is, size-sfits (c .before .fits .p))
 
   abbrev m′ : ℕ
-  m′ = (c .magnitude .result + 8192) / 16384
+  m′ = with-half (c .magnitude .result) / 16384
 
 magnitude-requires : tie.Need-magnitude-requires
 magnitude-requires c κs = search needs
