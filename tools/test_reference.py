@@ -501,74 +501,80 @@ class Printing(unittest.TestCase):
             self.assertEqual(done.stdout.decode("ascii"), reference.verdict_text(data))
 
 
+class Stored:
+    """A stored file, taken from its front."""
+
+    def __init__(self, content):
+        self.rest = content
+
+    def take(self, count):
+        taken, self.rest = self.rest[:count], self.rest[count:]
+        assert len(taken) == count
+        return taken
+
+    def number(self, count=2):
+        return int.from_bytes(self.take(count), "big")
+
+    def sized(self):
+        return self.take(self.number())
+
+    def figures(self, width, signed):
+        parts = [self.take(width) for _ in range(self.number(1))]
+        return [int.from_bytes(part, "big", signed=signed) for part in parts]
+
+    def outcome(self):
+        """Whether it is a refusal, its number, and the bytes that a count leaves."""
+        refused, number = self.number(1) == 1, self.number()
+        return refused, number, b"" if refused else self.take(number)
+
+
 class StoredForms(unittest.TestCase):
     @classmethod
     def setUpClass(cls):
         cls.files = vectors.make_files()
 
-    def take(self, content, place, count):
-        self.assertLessEqual(place + count, len(content))
-        return content[place:place + count], place + count
+    def each(self, name, check, least, end=b"\xff\xff"):
+        """Checks every item of a file, up to its end mark."""
+        stored, items = Stored(self.files[name]), 0
+        while stored.rest[:2] != end[:2]:
+            check(stored)
+            items += 1
+        self.assertEqual(stored.rest, end)
+        self.assertGreaterEqual(items, least)
 
-    def take_number(self, content, place, count=2):
-        value, place = self.take(content, place, count)
-        return int.from_bytes(value, "big"), place
+    def agrees(self, outcome, buffer, stored):
+        refused, number, front = stored.outcome()
+        self.assertEqual((outcome.kind == REFUSAL, outcome.number), (refused, number))
+        self.assertEqual(bytes(buffer), front + b"\xa5" * (len(buffer) - len(front)))
+
+    def check_vector(self, stored):
+        data = stored.sized()
+        self.assertLessEqual(len(data), 400)
+        length = stored.number()
+        outcome, buffer = reference.call(data, length)
+        self.assertEqual(len(buffer), length)
+        self.agrees(outcome, buffer, stored)
+
+    def check_text(self, stored):
+        data = stored.sized()
+        self.assertLessEqual(len(data), 389)
+        self.assertEqual(stored.sized().decode("ascii"), reference.verdict_text(data))
+
+    def check_write(self, stored):
+        head = stored.take(3)
+        kinds = ((2, True), (2, False), (4, True), (4, False), (4, True))
+        lists = [stored.figures(width, signed) for width, signed in kinds]
+        buffer = bytearray(b"\xa5" * stored.number())
+        self.agrees(reference.write_case(*head, *lists, buffer), buffer, stored)
 
     def test_vectors_parse(self):
-        content, place, items = self.files["vectors.bin"], 0, 0
-        while content[place:place + 2] != b"\xff\xff":
-            length, place = self.take_number(content, place)
-            data, place = self.take(content, place, length)
-            buffer_length, place = self.take_number(content, place)
-            kind, place = self.take_number(content, place, 1)
-            number, place = self.take_number(content, place)
-            record, place = self.take(content, place, 0 if kind else number)
-            outcome, buffer = reference.call(data, buffer_length)
-            self.assertEqual((outcome.kind == REFUSAL, outcome.number), (kind == 1, number))
-            self.assertEqual(buffer, record + b"\xa5" * (buffer_length - len(record)))
-            self.assertLessEqual(length, 400)
-            items += 1
-        self.assertEqual(place + 2, len(content))
-        self.assertGreaterEqual(items, 3000)
+        self.each("vectors.bin", self.check_vector, 3000)
 
     def test_texts_parse(self):
-        content, place, items = self.files["texts.bin"], 0, 0
-        while content[place:place + 2] != b"\xff\xff":
-            length, place = self.take_number(content, place)
-            data, place = self.take(content, place, length)
-            length, place = self.take_number(content, place)
-            text, place = self.take(content, place, length)
-            self.assertEqual(text.decode("ascii"), reference.verdict_text(data))
-            self.assertLessEqual(len(data), 389)
-            items += 1
-        self.assertEqual(place + 2, len(content))
-        self.assertGreaterEqual(items, 400)
-
-    def take_list(self, content, place, width, signed):
-        count, place = self.take_number(content, place, 1)
-        value, place = self.take(content, place, count * width)
-        parts = [value[i * width:(i + 1) * width] for i in range(count)]
-        return [int.from_bytes(part, "big", signed=signed) for part in parts], place
+        self.each("texts.bin", self.check_text, 400)
 
     def test_writes_parse(self):
-        content, place, items = self.files["writes.bin"], 0, 0
-        while content[place:place + 2] != b"\xff\xff":
-            head, place = self.take(content, place, 3)
-            lists = []
-            for width, signed in ((2, True), (2, False), (4, True), (4, False), (4, True)):
-                figures, place = self.take_list(content, place, width, signed)
-                lists.append(figures)
-            length, place = self.take_number(content, place)
-            kind, place = self.take_number(content, place, 1)
-            number, place = self.take_number(content, place)
-            case, place = self.take(content, place, 0 if kind else number)
-            buffer = bytearray(b"\xa5" * length)
-            outcome = reference.write_case(*head, *lists, buffer)
-            self.assertEqual((outcome.kind == REFUSAL, outcome.number), (kind == 1, number))
-            self.assertEqual(bytes(buffer), case + b"\xa5" * (length - len(case)))
-            items += 1
-        self.assertEqual(content[place:], b"\xff\xff\xff")
-        self.assertGreaterEqual(items, 300)
+        self.each("writes.bin", self.check_write, 300, b"\xff\xff\xff")
 
     def test_sizes(self):
         self.assertLess(len(self.files["vectors.bin"]) + len(self.files["texts.bin"]), 2_000_000)
