@@ -13,8 +13,8 @@ use Rattle.rounding.specs.Round.{rnd}
 use Rattle.rounding.specs.Laws.{rnd-le}
 use Rattle.elimination.specs.Matrix.{at, fill, Within, AllWithin}
 use Rattle.elimination.specs.Steps.{pivot-row, exchange, multiplier, reduced, eliminated-row, row-below, eliminated-below}
-use Rattle.elimination.specs.Conditions.{bound, Ready, Pivoted}
-use Rattle.elimination.specs.Laws.{fill-done, all-set, all-fill, transposed, transposed-cases, transposed-first, exchange-at}
+use Rattle.elimination.specs.Conditions.{bound, Dividing, Ready, Pivoted}
+use Rattle.elimination.specs.Laws.{all-set, all-fill, fill-none, transposed, transposed-cases, transposed-first, exchange-at}
 use Rattle.elimination.specs.Pivot.{Best, pivot-best, nonzero-in}
 
 pub bound-mono : (i j : ℕ) → i ≤ j → bound i ≤ bound j
@@ -29,6 +29,11 @@ bound-suc k = omega (arith, ap (λ (x : ℕ). x * 2 ^ 23) (pow-add 2 k 1))
 pub bound-low : (k : ℕ) → 16384 ≤ bound k
 bound-low k = omega (arith, pow-pos k)
 
+-- ---- a multiplier
+
+pub divided-le : (entry pivot : ℤ) → Dividing entry pivot → natAbs (rnd (pos 16384 *ℤ entry) pivot) ≤ 16384
+divided-le entry pivot h = rnd-le (pos 16384 *ℤ entry) pivot 16384 (omega (arith, h .largest, natAbs-*ℤ (pos 16384) entry))
+
 -- ---- a row
 
 module _ (top row : List ℤ) (k n : ℕ) (h : Ready top row k n) where
@@ -41,13 +46,11 @@ module _ (top row : List ℤ) (k n : ℕ) (h : Ready top row k n) where
   pub row-le : (j : ℕ) → natAbs (getD row j (pos 0)) ≤ 2 ^ 30
   row-le j = omega (arith, h .row-in j, small)
 
-  pub dividend-le : natAbs (pos 16384 *ℤ getD row k (pos 0)) ≤ 2 ^ 44
-  dividend-le = omega (arith, natAbs-*ℤ (pos 16384) (getD row k (pos 0)), row-le k)
+  pub dividing : Dividing (getD row k (pos 0)) (getD top k (pos 0))
+  dividing = record { some = h .pivot; largest = h .largest; small = top-le k }
 
   pub multiplier-le : natAbs (multiplier top row k) ≤ 16384
-  multiplier-le =
-      rnd-le (pos 16384 *ℤ getD row k (pos 0)) (getD top k (pos 0)) 16384
-      (omega (arith, h .largest, natAbs-*ℤ (pos 16384) (getD row k (pos 0))))
+  multiplier-le = divided-le (getD row k (pos 0)) (getD top k (pos 0)) dividing
 
   product-in : (j : ℕ) → natAbs (multiplier top row k *ℤ getD top j (pos 0)) ≤ bound k * 16384
   product-in j =
@@ -106,7 +109,7 @@ step-grows w k n h =
 -- the last step has no row below it
 pub last-step : (w : List (List ℤ)) (k n : ℕ) → n ≤ k + 1 → eliminated-below w k n ≡ w
 unfolding eliminated-below
-last-step w k n h = fill-done (row-below w k n) (k + 1) n w h
+last-step w k n h = fill-none (row-below w k n) (k + 1) n w h
 
 -- the exchange brings the pivot up
 module _ (w : List (List ℤ)) (k n : ℕ) (h : k < n) (hp : 0 < natAbs (at w (pivot-row w k n) k)) where

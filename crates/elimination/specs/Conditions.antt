@@ -19,6 +19,12 @@ pub record StartRows (rows expected : List (List ℤ)) : Type 0 where
   pub are : rows ≡ expected
   pub within : AllWithin (bound 0) rows
 
+-- what a multiplier asks: a pivot that is not 0 and not above 2^30, and an entry that is not larger
+pub record Dividing (entry pivot : ℤ) : Type 0 where
+  pub some : 0 < natAbs pivot
+  pub largest : natAbs entry ≤ natAbs pivot
+  pub small : natAbs pivot ≤ 2 ^ 30
+
 -- what the elimination of one row asks
 pub record Ready (top row : List ℤ) (k n : ℕ) : Type 0 where
   pub below : k < n

@@ -12,20 +12,6 @@ use borrow.Author.Tests.{eq-eqb, ne-eqb}
 use Rattle.elimination.specs.Matrix.{fill}
 use Rattle.elimination.specs.Steps.{exchange}
 
--- ---- a loop that fills, one place a turn: the rest of the work from here is all of it
-
-pub fill-more : {A : Type 0} (f : ℕ → A) (j n : ℕ) (l : List A) → j < n → fill f (j + 1) (n - (j + 1)) (set l j (f j)) ≡ fill f j (n - j) l
-unfolding fill
-fill-more f j n l h =
-    let e : n - j ≡ suc (n - (j + 1)) = omega arith in
-    ap (λ (m : ℕ). fill f j m l) (sym e)
-
-pub fill-done : {A : Type 0} (f : ℕ → A) (j n : ℕ) (l : List A) → n ≤ j → fill f j (n - j) l ≡ l
-unfolding fill
-fill-done f j n l h =
-    let e : n - j ≡ 0 = omega arith in
-    ap (λ (m : ℕ). fill f j m l) e
-
 -- ---- what holds of every entry, past the end too, where the default stands
 
 module _ {A : Type 0} (P : A → Type 0) (d : A) where
@@ -73,6 +59,40 @@ module _ {A : Type 0} (P : A → Type 0) (d : A) where
           subst (λ (x : ℕ). P (getD (set l s (f s)) x d)) (sym e)
           (set-here l s (f s) (subst (λ (x : ℕ). P (f x)) e (a (omega arith) (omega arith))) (λ h. b (omega arith) (omega arith) (omega arith)))
       go o (no g) = subst P (sym (getD-set-other l s j (f s) d g)) (c (λ p q. o (omega arith) (omega arith)))
+
+-- ---- a loop that fills in place, one place a turn: places s to below j are filled
+
+module _ {A : Type 0} (f : ℕ → A) where
+  -- the last place by itself
+  fill-suc : (s m : ℕ) (l : List A) → fill f s (suc m) l ≡ set (fill f s m l) (s + m) (f (s + m))
+  unfolding fill
+  fill-suc s zero l = let e : s ≡ s + 0 = omega arith in ap (λ (i : ℕ). set l i (f i)) e
+  fill-suc s (suc m) l =
+      let e : (s + 1) + m ≡ s + suc m = omega arith in
+      fill-suc (s + 1) m (set l s (f s)) ∙ ap (λ (i : ℕ). set (fill f (s + 1) m (set l s (f s))) i (f i)) e
+
+  -- nothing is filled yet
+  pub fill-none : (s j : ℕ) (l : List A) → j ≤ s → fill f s (j - s) l ≡ l
+  unfolding fill
+  fill-none s j l h =
+      let e : j - s ≡ 0 = omega arith in
+      ap (λ (m : ℕ). fill f s m l) e
+
+  module _ (s j : ℕ) (l : List A) (h : s ≤ j) where
+    -- place j too
+    pub fill-next : set (fill f s (j - s) l) j (f j) ≡ fill f s ((j + 1) - s) l
+    fill-next =
+        let e : (j + 1) - s ≡ suc (j - s) = omega arith in
+        let g : j ≡ s + (j - s) = omega arith in
+        ap (λ (i : ℕ). set (fill f s (j - s) l) i (f i)) g ∙ sym (ap (λ (m : ℕ). fill f s m l) e ∙ fill-suc s (j - s) l)
+
+    -- place j is as it was
+    pub fill-left : (d : A) → getD (fill f s (j - s) l) j d ≡ getD l j d
+    fill-left d =
+        fill-at (λ (x : A). x ≡ getD l j d) d j f s (j - s) l
+        (λ p q. absurd (omega arith))
+        (λ p q o. absurd (omega arith))
+        (λ o. refl)
 
 -- ---- an exchange reads every place by the transposition of its two
 

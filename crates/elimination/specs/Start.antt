@@ -11,16 +11,19 @@ use Rattle.elimination.specs.Steps.{scaled, working-row, working}
 use Rattle.elimination.specs.Conditions.{bound}
 use Rattle.elimination.specs.Laws.{all-same, all-fill, fill-at}
 
--- a row of numbers that are not used
+-- a row of numbers that are not used, and rows of them
 abbrev pub zero-row : List ℤ
 zero-row = replicate 8 (pos 0)
+
+abbrev pub zero-rows : List (List ℤ)
+zero-rows = replicate 8 zero-row
 
 -- ---- place by place
 
 zero-at : (j : ℕ) → getD zero-row j (pos 0) ≡ pos 0
 zero-at j = all-same (λ (z : ℤ). z ≡ pos 0) (pos 0) 8 (pos 0) refl refl j
 
-zeros-at : (i j : ℕ) → at (replicate 8 zero-row) i j ≡ pos 0
+zeros-at : (i j : ℕ) → at zero-rows i j ≡ pos 0
 zeros-at i j = all-same (λ (l : List ℤ). getD l j (pos 0) ≡ pos 0) [] 8 zero-row (zero-at j) refl i
 
 module _ (n : ℕ) (a : List ℤ) (i j : ℕ) where
@@ -28,7 +31,7 @@ module _ (n : ℕ) (a : List ℤ) (i j : ℕ) where
   pub working-used : n ≤ 8 → i < n → j < n → at (working n a) i j ≡ pos 256 *ℤ getD a (i * n + j) (pos 0)
   unfolding working working-row
   working-used h8 p q =
-      fill-at (λ (l : List ℤ). getD l j (pos 0) ≡ scaled n a i j) [] i (working-row n a) 0 n (replicate 8 zero-row)
+      fill-at (λ (l : List ℤ). getD l j (pos 0) ≡ scaled n a i j) [] i (working-row n a) 0 n zero-rows
       (λ x y. fill-at (λ (z : ℤ). z ≡ scaled n a i j) (pos 0) j (scaled n a i) 0 n zero-row
       (λ u v. refl)
       (λ u v o. absurd (omega arith))
@@ -40,7 +43,7 @@ module _ (n : ℕ) (a : List ℤ) (i j : ℕ) where
   pub working-unused-row : n ≤ i → at (working n a) i j ≡ pos 0
   unfolding working
   working-unused-row h =
-      fill-at (λ (l : List ℤ). getD l j (pos 0) ≡ pos 0) [] i (working-row n a) 0 n (replicate 8 zero-row)
+      fill-at (λ (l : List ℤ). getD l j (pos 0) ≡ pos 0) [] i (working-row n a) 0 n zero-rows
       (λ x y. absurd (omega arith))
       (λ x y o. refl)
       (λ o. zeros-at i j)
@@ -48,7 +51,7 @@ module _ (n : ℕ) (a : List ℤ) (i j : ℕ) where
   pub working-unused-column : n ≤ j → at (working n a) i j ≡ pos 0
   unfolding working working-row
   working-unused-column h =
-      fill-at (λ (l : List ℤ). getD l j (pos 0) ≡ pos 0) [] i (working-row n a) 0 n (replicate 8 zero-row)
+      fill-at (λ (l : List ℤ). getD l j (pos 0) ≡ pos 0) [] i (working-row n a) 0 n zero-rows
       (λ x y. fill-at (λ (z : ℤ). z ≡ pos 0) (pos 0) j (scaled n a i) 0 n zero-row (λ u v. absurd (omega arith)) (λ u v o. refl) (λ o. zero-at j))
       (λ x y o. refl)
       (λ o. zeros-at i j)
@@ -58,7 +61,7 @@ module _ (n : ℕ) (a : List ℤ) (i j : ℕ) where
 pub zero-row-in : Within (bound 0) zero-row
 zero-row-in = all-same (λ (z : ℤ). natAbs z ≤ bound 0) (pos 0) 8 (pos 0) (omega arith) (omega arith)
 
-pub zeros-in : AllWithin (bound 0) (replicate 8 zero-row)
+pub zeros-in : AllWithin (bound 0) zero-rows
 zeros-in = all-same (Within (bound 0)) [] 8 zero-row zero-row-in (λ j. omega arith)
 
 working-row-in : (n : ℕ) (a : List ℤ) (i : ℕ) → Within (2 ^ 15) a → Within (bound 0) (working-row n a i)

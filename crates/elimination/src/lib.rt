@@ -1,97 +1,98 @@
 // Elimination with row exchanges on working numbers.
 use integers::magnitude;
+use rounding::rounded_by_scale;
 use rounding::rounded_quotient;
 ghost use mathlib.Core.Path.{_≡_};
 ghost use mathlib.Core.List.{[]};
 ghost use Prim.Native.Nat.{_<_, _≤_};
+ghost use lib.IntN.{pos, _*ℤ_};
+ghost use Rattle.rounding.specs.Round.{rnd};
 ghost use Rattle.elimination.specs.Steps.{working-row, working, exchange, eliminated-row, eliminated-below};
-ghost use Rattle.elimination.specs.Conditions.{StartRow, StartRows, Ready, Pivoted};
+ghost use Rattle.elimination.specs.Conditions.{StartRow, StartRows, Dividing, Ready, Pivoted};
+ghost use Rattle.elimination.specs.Start.{zero-row, zero-rows};
 ghost use Rattle.elimination.specs.Outcome.{Eliminates};
 
-// The working numbers of row i at the start.
-fn working_row(n: usize, coefficients: &[i16; 64], i: usize) -> [i64; 8]
-    requires { ⌜ (n ≤ 8) × (i < n) ⌝ }
-    ensures { λ r. ⌜ StartRow r (working-row n (now (coefficients .entry)) i) ⌝ }
+// Row i of the working numbers at the start, over a row of zeros.
+fn fill_row(n: usize, coefficients: &[i16; 64], i: usize, row: &mut [i64; 8])
+    requires { ⌜ (n ≤ 8) × (i < n) × (now row ≡ zero-row) ⌝ }
+    ensures { λ _. ⌜ StartRow (now (row .exit)) (working-row n (now (coefficients .entry)) i) ⌝ }
 {
-    let mut r = [0i64; 8];
     let mut j: usize = 0;
     while j < n {
-        r[j] = 256 * (coefficients[i * n + j] as i64);
+        row[j] = 256 * (coefficients[i * n + j] as i64);
         j += 1;
     }
-    r
 }
 
-// The working numbers at the start.
-fn working_rows(n: usize, coefficients: &[i16; 64]) -> [[i64; 8]; 8]
-    requires { ⌜ n ≤ 8 ⌝ }
-    ensures { λ r. ⌜ StartRows r (working n (now (coefficients .entry))) ⌝ }
+// The working numbers at the start, over rows of zeros.
+fn fill_rows(n: usize, coefficients: &[i16; 64], w: &mut [[i64; 8]; 8])
+    requires { ⌜ (n ≤ 8) × (now w ≡ zero-rows) ⌝ }
+    ensures { λ _. ⌜ StartRows (now (w .exit)) (working n (now (coefficients .entry))) ⌝ }
 {
-    let mut w = [[0i64; 8]; 8];
     let mut i: usize = 0;
     while i < n {
-        let row = working_row(n, coefficients, i);
-        w[i] = row;
+        fill_row(n, coefficients, i, &mut w[i]);
         i += 1;
     }
-    w
 }
 
 // Rows i and j exchanged, with the multipliers that stand in them.
-fn exchanged_rows(mut w: [[i64; 8]; 8], i: usize, j: usize) -> [[i64; 8]; 8]
+fn exchange_rows(w: &mut [[i64; 8]; 8], i: usize, j: usize)
     requires { ⌜ (i < 8) × (j < 8) ⌝ }
-    ensures { λ r. ⌜ r ≡ exchange [] w i j ⌝ }
+    ensures { λ _. ⌜ now (w .exit) ≡ exchange [] (now (w .entry)) i j ⌝ }
 {
     let a = w[i];
     let b = w[j];
     w[i] = b;
     w[j] = a;
-    w
 }
 
 // Places i and j of the order exchanged.
-fn exchanged_places(mut order: [usize; 8], i: usize, j: usize) -> [usize; 8]
+fn exchange_places(order: &mut [usize; 8], i: usize, j: usize)
     requires { ⌜ (i < 8) × (j < 8) ⌝ }
-    ensures { λ r. ⌜ r ≡ exchange 0 order i j ⌝ }
+    ensures { λ _. ⌜ now (order .exit) ≡ exchange 0 (now (order .entry)) i j ⌝ }
 {
     let a = order[i];
     let b = order[j];
     order[i] = b;
     order[j] = a;
-    order
 }
 
-// A row below the pivot's row `top` with column k eliminated; its multiplier is kept there.
-fn eliminated_row(top: [i64; 8], row: [i64; 8], k: usize, n: usize) -> [i64; 8]
-    requires { ⌜ Ready top row k n ⌝ }
-    ensures { λ r. ⌜ r ≡ eliminated-row top row k n ⌝ }
+// M = rnd(16,384 × entry / pivot), at most 16,384 since no entry below the pivot is larger.
+fn multiplier_of(entry: i64, pivot: i64) -> i64
+    requires { ⌜ Dividing entry pivot ⌝ }
+    ensures { λ r. ⌜ r ≡ rnd (pos 16384 *ℤ entry) pivot ⌝ }
 {
-    let m = rounded_quotient(16384 * row[k], top[k]);
-    let mut r = row;
+    rounded_quotient(16384 * entry, pivot)
+}
+
+// Column k eliminated in a row below the pivot's row `top`; the row's multiplier is kept there.
+fn eliminate_row(top: &[i64; 8], row: &mut [i64; 8], k: usize, n: usize)
+    requires { ⌜ Ready (now top) (now row) k n ⌝ }
+    ensures { λ _. ⌜ now (row .exit) ≡ eliminated-row (now (top .entry)) (now (row .entry)) k n ⌝ }
+{
+    let m = multiplier_of(row[k], top[k]);
     let mut j = k + 1;
     while j < n {
-        r[j] = row[j] - rounded_quotient(m * top[j], 16384);
+        row[j] = row[j] - rounded_by_scale(m * top[j]);
         j += 1;
     }
-    r[k] = m;
-    r
+    row[k] = m;
 }
 
-// Every row below row k with column k eliminated.
-fn step(w: [[i64; 8]; 8], k: usize, n: usize) -> [[i64; 8]; 8]
-    requires { ⌜ Pivoted w k n ⌝ }
-    ensures { λ r. ⌜ r ≡ eliminated-below w k n ⌝ }
+// Step k: rows k and `pivot` exchanged, and column k eliminated in every row below row k.
+fn step(mut w: [[i64; 8]; 8], k: usize, pivot: usize, n: usize) -> [[i64; 8]; 8]
+    requires { ⌜ (pivot < 8) × Pivoted (exchange [] w k pivot) k n ⌝ }
+    ensures { λ r. ⌜ r ≡ eliminated-below (exchange [] w k pivot) k n ⌝ }
 {
+    exchange_rows(&mut w, k, pivot);
     let top = w[k];
-    let mut r = w;
     let mut i = k + 1;
     while i < n {
-        let row = w[i];
-        let below = eliminated_row(top, row, k, n);
-        r[i] = below;
+        eliminate_row(&top, &mut w[i], k, n);
         i += 1;
     }
-    r
+    w
 }
 
 // Whether every step found a pivot. `ZeroPivot(k)`: k steps were made, and at the next every candidate is zero (refusal 8).
@@ -112,7 +113,8 @@ pub fn eliminate(
     requires { ⌜ n ≤ 8 ⌝ }
     ensures { λ r. ⌜ Eliminates n (now (coefficients .entry)) r (now (rows .exit)) (now (order .exit)) ⌝ }
 {
-    let mut w = working_rows(n, coefficients);
+    let mut w = [[0i64; 8]; 8];
+    fill_rows(n, coefficients, &mut w);
     let mut places: [usize; 8] = [0, 1, 2, 3, 4, 5, 6, 7];
     let mut k: usize = 0;
     'steps: while k < n {
@@ -133,10 +135,8 @@ pub fn eliminate(
             }
             i += 1;
         }
-        w = exchanged_rows(w, k, pivot);
-        let exchanged = exchanged_places(places, k, pivot);
-        places = exchanged;
-        w = step(w, k, n);
+        w = step(w, k, pivot, n);
+        exchange_places(&mut places, k, pivot);
         k += 1;
     }
     *rows = w;

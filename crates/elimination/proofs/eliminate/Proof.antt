@@ -35,13 +35,13 @@ record Searched (w : List (List ℤ)) (k n pivot size i : ℕ) : Type 0 where
   rest : pivot-from w k pivot i (n - i) ≡ pivot-row w k n
 
 -- one step more
-made-more : {n k p : ℕ} {a : List ℤ} {w w₁ w₂ : List (List ℤ)} {places places₁ : List ℕ}
+made-more : {n k p : ℕ} {a : List ℤ} {w w₁ : List (List ℤ)} {places places₁ : List ℕ}
     → Made n a w places k → k < n → 0 < largest n (state w places k) → p ≡ pivot-row w k n
-    → w₁ ≡ exchange [] w k p → places₁ ≡ exchange 0 places k p → w₂ ≡ eliminated-below w₁ k n → Made n a w₂ places₁ (k + 1)
-made-more {n} {k} {p} {a} {w} {w₁} {w₂} {places} m h l e f g i =
+    → w₁ ≡ eliminated-below (exchange [] w k p) k n → places₁ ≡ exchange 0 places k p → Made n a w₁ places₁ (k + 1)
+made-more {n} {k} {p} {a} {w} {w₁} {places} m h l e f g =
     record {
       few = omega arith;
-      is = after-more n a k ∙ ap (advanced n) (m .is) ∙ advanced-step n (state w places k) l ∙ rw (i, f, g, e);
+      is = after-more n a k ∙ ap (advanced n) (m .is) ∙ advanced-step n (state w places k) l ∙ rw (f, g, e);
     }
 
 -- what is left when the steps are over
@@ -89,12 +89,12 @@ module _ {w : List (List ℤ)} {k n pivot size i : ℕ} (s : Searched w k n pivo
   size-largest : (places : List ℕ) → largest n (state w places k) ≡ size
   size-largest places = sym (s .size-is ∙ ap (λ (x : ℕ). natAbs (at w x k)) pivot-is)
 
-working-rows-requires : tie.Need-working-rows-requires Inv-rows μ-rows Inv-steps μ-steps
-working-rows-requires c κs = c .pre
+fill-rows-requires : tie.Need-fill-rows-requires Inv-rows μ-rows Inv-steps μ-steps
+fill-rows-requires c κs = (c .before .pre, refl)
 
 steps-holds : tie.Need-steps-holds Inv-rows μ-rows Inv-steps μ-steps
 steps-holds c =
-    record { few = omega arith; is = after-none (c .before .args .n) (c .before .args .coefficients .now) ∙ rw (← c .working-rows .ensures .are) }
+    record { few = omega arith; is = after-none (c .before .before .args .n) (c .before .before .args .coefficients .now) ∙ rw (← c .fill-rows .ensures .are) }
 
 mul-magnitude : tie.Need-mul-magnitude Inv-rows μ-rows Inv-steps μ-steps
 mul-magnitude c = omega arith
@@ -154,19 +154,13 @@ rows-again c =
     (λ t. rw (t .1, t .2) (searched-stay (r .rows .inv) (omega arith) e (t .0 .left)))
     (c .if3 .came)
 
-exchanged-rows-requires : tie.Need-exchanged-rows-requires Inv-rows μ-rows Inv-steps μ-steps
-exchanged-rows-requires c κs = omega arith
-
-exchanged-places-requires : tie.Need-exchanged-places-requires Inv-rows μ-rows Inv-steps μ-steps
-exchanged-places-requires c κs = omega arith
-
 -- where the pivot is not zero
 module _ (c : tie.Else2 Inv-rows μ-rows Inv-steps μ-steps) where
   abbrev head : tie.At-steps Inv-rows μ-rows Inv-steps μ-steps
   head = c .before .before .before .before .before .before
 
   abbrev n′ : ℕ
-  n′ = head .before .before .args .n
+  n′ = head .before .before .before .args .n
 
   abbrev w′ : List (List ℤ)
   w′ = head .steps .w
@@ -187,16 +181,17 @@ module _ (c : tie.Else2 Inv-rows μ-rows Inv-steps μ-steps) where
 
   ready : Pivoted (exchange [] w′ k′ (pivot-row w′ k′ n′)) k′ n′
   ready =
-      let s = head .before .before in
-      let b = rw (head .before .working-rows .ensures .are) at (head .before .working-rows .ensures .within) in
+      let s = head .before .before .before in
+      let b = rw (head .before .fill-rows .ensures .are) at (head .before .fill-rows .ensures .within) in
       kept-pivoted n′ (state w′ places′ k′) (s .pre) (omega arith)
       (rw (head .steps .inv .is) at (kept n′ (s .args .coefficients .now) (s .pre) b k′ (omega arith)))
       nonzero
 
 step-requires : tie.Need-step-requires Inv-rows μ-rows Inv-steps μ-steps
-step-requires c κs =
-    let e = c .before .before in
-    rw (c .before .exchanged-rows .ensures, pivot-found e) (ready e)
+step-requires c κs = (omega arith, rw (pivot-found c) (ready c))
+
+exchange-places-requires : tie.Need-exchange-places-requires Inv-rows μ-rows Inv-steps μ-steps
+exchange-places-requires c κs = omega arith
 
 add-k : tie.Need-add-k Inv-rows μ-rows Inv-steps μ-steps
 add-k c = omega arith
@@ -207,8 +202,7 @@ steps-less c = omega arith
 steps-again : tie.Need-steps-again Inv-rows μ-rows Inv-steps μ-steps
 steps-again c =
     let e = c .before .before .before in
-    made-more (head e .steps .inv) (omega arith) (nonzero e) (pivot-found e)
-    (c .before .before .exchanged-rows .ensures) (c .before .exchanged-places .ensures) (c .step .ensures)
+    made-more (head e .steps .inv) (omega arith) (nonzero e) (pivot-found e) (c .before .before .step .ensures) (c .exchange-places .ensures)
 
 -- the whole, once the steps are left
 module _ (c : tie.Left-steps Inv-rows μ-rows Inv-steps μ-steps) where
@@ -216,13 +210,13 @@ module _ (c : tie.Left-steps Inv-rows μ-rows Inv-steps μ-steps) where
   last = c .before
 
   abbrev a′ : List ℤ
-  a′ = last .before .before .args .coefficients .now
+  a′ = last .before .before .before .args .coefficients .now
 
-  whole : eliminated (last .before .before .args .n) a′ ≡ state (last .steps .w) (last .steps .places) (last .steps .k)
+  whole : eliminated (last .before .before .before .args .n) a′ ≡ state (last .steps .w) (last .steps .places) (last .steps .k)
   unfolding eliminated
   whole =
       let d = last in
-      let n = d .before .before .args .n in
+      let n = d .before .before .before .args .n in
       ⊎-elim
       (λ t. let e : n ≡ d .steps .k = omega (arith, t .left, d .steps .inv .few) in ap (after-steps n a′) e ∙ d .steps .inv .is)
       (λ t. stays n a′ (d .steps .k) n (d .steps .inv .few)
@@ -246,7 +240,7 @@ eliminate-spec =
     μ-rows
     Inv-steps
     μ-steps
-    working-rows-requires
+    fill-rows-requires
     steps-holds
     mul-magnitude
     mul-magnitude-2
@@ -263,9 +257,8 @@ eliminate-spec =
     add-i-2
     rows-less
     rows-again
-    exchanged-rows-requires
-    exchanged-places-requires
     step-requires
+    exchange-places-requires
     add-k
     steps-less
     steps-again

@@ -1,0 +1,140 @@
+-- `elimination::fill_row` meets its contract. The invariant: the columns so far are filled, and the row is within the bound. A coefficient's
+-- range is told where it is read. Assumes nothing.
+use mathlib.Core.Path.{_≡_, sym, ap, _∙_}
+use mathlib.Core.List.{List}
+use Prim.Native.Nat.{ℕ, _+_, _*_, _-_, _<_, _≤_}
+use native.Mathlib.Nat.{mul-le-mul}
+use native.Mathlib.Omega.{arith}
+use lib.ListN.{getD, set}
+use lib.IntN.{ℤ, pos, natAbs, _*ℤ_}
+use mir.Syntax.{w16, w64}
+use mir.Val.{SFits, toZ, ofZ}
+use mir.Facts.{toZ-ofZ}
+use Rattle.integers.specs.Size.{natAbs-*ℤ, size-sfits, sfits-size}
+use Rattle.elimination.specs.Matrix.{fill, Within}
+use Rattle.elimination.specs.Steps.{scaled, working-row}
+use Rattle.elimination.specs.Conditions.{bound}
+use Rattle.elimination.specs.Laws.{fill-none, fill-next, all-set}
+use Rattle.elimination.specs.Start.{zero-row, zero-row-in}
+use Rattle.elimination.proofs.fill_row.Statement.{statement}
+use Rattle.elimination.proofs.fill_row.Tie as tie
+
+abbrev Inv-loop : tie.InvT-loop
+Inv-loop n coefficients i row₀ j₀ row j = (j ≤ n) × Within (bound 0) row × (row ≡ fill (scaled n coefficients i) 0 (j - 0) zero-row)
+
+abbrev μ-loop : tie.MeasureT-loop
+μ-loop n coefficients i row₀ j₀ row j = n - j
+
+-- the index of a coefficient
+place : (n i j : ℕ) → n ≤ 8 → i < n → j < n → i * n + j < 64
+place n i j h p q =
+    let l : i ≤ 7 = omega arith in
+    omega (arith, mul-le-mul l h)
+
+-- what a coefficient in its range gives
+module _ (z : ℤ) (f : SFits w16 z) where
+  size : natAbs (pos 256 *ℤ z) ≤ bound 0
+  size = omega (arith, natAbs-*ℤ (pos 256) z, size-sfits f)
+
+  product : SFits w64 (pos 256 *ℤ z)
+  product = sfits-size (omega (arith, size))
+
+  wide : SFits w64 z
+  wide = sfits-size (omega (arith, size-sfits f))
+
+  read : toZ w64 (ofZ w64 (toZ w16 (ofZ w16 z))) ≡ z
+  read = rw (toZ-ofZ f) (toZ-ofZ wide)
+
+loop-holds : tie.Need-loop-holds Inv-loop μ-loop
+loop-holds c = (
+  omega arith,
+  rw (c .pre .2) zero-row-in,
+  c .pre .2 ∙ sym (fill-none (scaled (c .args .n) (c .args .coefficients .now) (c .args .i)) 0 0 zero-row (omega arith)),
+)
+
+in-turn : (c : tie.In-loop Inv-loop μ-loop) → c .before .before .args .i * c .before .before .args .n + c .before .loop .j < 64
+in-turn c = let s = c .before .before .args in place (s .n) (s .i) (c .before .loop .j) (omega arith) (omega arith) (omega arith)
+
+mul-row : tie.Need-mul-row Inv-loop μ-loop
+mul-row c = omega (arith, in-turn c)
+
+add-row : tie.Need-add-row Inv-loop μ-loop
+add-row c = omega (arith, in-turn c)
+
+mul-row-2 : tie.Need-mul-row-2 Inv-loop μ-loop
+mul-row-2 c = omega (arith, in-turn c)
+
+element-copy-out-row : tie.Need-element-copy-out-row Inv-loop μ-loop
+element-copy-out-row c = in-turn c
+
+-- the coefficient that a turn reads
+module _ (c : tie.After-row Inv-loop μ-loop) where
+  abbrev figure : ℤ
+  figure =
+      let s = c .before .before .before .args in
+      getD (s .coefficients .now) (s .i * s .n + c .before .before .loop .j) (pos 0)
+
+  range : SFits w16 figure
+  range = record { sfits = c .row .given }
+
+cast-row : tie.Need-cast-row Inv-loop μ-loop
+cast-row c = rw (toZ-ofZ (range c)) (wide (figure c) (range c))
+
+mul-row-3 : tie.Need-mul-row-3 Inv-loop μ-loop
+mul-row-3 c = rw (read (figure c) (range c)) (product (figure c) (range c))
+
+mul-t15 : tie.Need-mul-t15 Inv-loop μ-loop
+mul-t15 c = omega arith
+
+element-set-from-row : tie.Need-element-set-from-row Inv-loop μ-loop
+element-set-from-row c = omega arith
+
+add-j : tie.Need-add-j Inv-loop μ-loop
+add-j c = omega arith
+
+loop-less : tie.Need-loop-less Inv-loop μ-loop
+loop-less c = omega arith
+
+loop-again : tie.Need-loop-again Inv-loop μ-loop
+loop-again c =
+    let d = c .before .before in
+    let s = d .before .args in
+    let z = figure c in
+    let f = range c in
+    rw (read z f, toZ-ofZ (product z f)) (
+      omega arith,
+      all-set (λ (x : ℤ). natAbs x ≤ bound 0) (pos 0) (d .loop .row) (d .loop .j) (pos 256 *ℤ z) (size z f) (d .loop .inv .1),
+      ap (λ (l : List ℤ). set l (d .loop .j) (pos 256 *ℤ z)) (d .loop .inv .2)
+          ∙ fill-next (scaled (s .n) (s .coefficients .now) (s .i)) 0 (d .loop .j) zero-row (omega arith),
+    )
+
+returns : tie.Need-returns Inv-loop μ-loop
+unfolding working-row
+returns c =
+    let d = c .before in
+    let s = d .before .args in
+    let e : d .loop .j - 0 ≡ s .n = omega arith in
+    record {
+      is = d .loop .inv .2 ∙ ap (λ (m : ℕ). fill (scaled (s .n) (s .coefficients .now) (s .i)) 0 m zero-row) e;
+      within = d .loop .inv .1;
+    }
+
+pub fill-row-spec : {M : Type 1} → statement M
+fill-row-spec =
+    tie.close
+    (tie.spec
+    Inv-loop
+    μ-loop
+    loop-holds
+    mul-row
+    add-row
+    mul-row-2
+    element-copy-out-row
+    cast-row
+    mul-row-3
+    mul-t15
+    element-set-from-row
+    add-j
+    loop-less
+    loop-again
+    returns)
