@@ -8,6 +8,7 @@ use lib.IntN.{ℤ, pos, natAbs}
 use Rattle.integers.specs.Tables.{filled}
 use Rattle.fractions.specs.Fraction.{Fraction, _over_}
 use Rattle.fractions.specs.Greatest.{first-greatest}
+use Rattle.judge.specs.declared.Standing.{Standing}
 use Rattle.judge.specs.declared.Judgement.{Judgement}
 use Rattle.judge.specs.System.{Row, Trial, System, residual, reach, row, trial}
 
@@ -57,4 +58,26 @@ judgement s t =
       decides = suc (deciding s t);
       residuals = residuals s t;
       reaches = reaches s t;
+    }
+
+-- ---- in two steps: what a trial leaves of each row decides whether it is met; the deciding row is looked for once, at the end
+
+-- the first unmet row, with residual and reach of each
+abbrev pub standing : System → Trial → Standing
+standing s t = record { unmet = first-unmet s t; residuals = residuals s t; reaches = reaches s t }
+
+-- the row that decides, counted from 0, of n rows whose residuals and reaches stand in eight places
+unfoldable pub deciding-place : ℕ → Standing → ℕ
+deciding-place n p = first-greatest (λ i. factor (getD (p .residuals) i (pos 0)) (getD (p .reaches) i 0)) n
+
+-- the judgement of n rows from their standing: that of a trial, where it is the trial's (`judgement-concluded` in Laws)
+unfoldable pub concluded : ℕ → Standing → Judgement
+concluded n p =
+    record {
+      met = eqb (p .unmet) 0;
+      unmet = p .unmet;
+      none = no-factor (getD (p .residuals) (deciding-place n p) (pos 0)) (getD (p .reaches) (deciding-place n p) 0);
+      decides = suc (deciding-place n p);
+      residuals = p .residuals;
+      reaches = p .reaches;
     }

@@ -1,9 +1,8 @@
 -- Laws of the judgement's parts: the first place at which a test fails, and the whole from its parts. Assumes nothing.
-use mathlib.Core.Path.{_≡_, refl, sym, ap, ap₂, _∙_}
+use mathlib.Core.Path.{_≡_, refl, ap, ap₂, _∙_}
 use mathlib.Core.Bool.{Bool, true, false, cond}
 use Prim.Native.Nat.{ℕ, zero, suc, _+_, _<_, _≤_}
 use native.Mathlib.Decide.{ℕ-discrete}
-use native.Mathlib.Nat.{suc-inj}
 use native.Mathlib.Numerals.{add-one}
 use native.Mathlib.Omega.{arith}
 use lib.Dec.{eqb}
@@ -11,10 +10,10 @@ use lib.ListN.{getD}
 use lib.IntN.{ℤ, pos}
 use mathlib.Core.List.{List}
 use Rattle.integers.specs.Tables.{getD-filled}
-use Rattle.fractions.specs.Greatest.{first-greatest, first-greatest-cong}
-use Rattle.judge.specs.declared.Judgement.{Judgement}
+use Rattle.fractions.specs.Greatest.{first-greatest-cong}
+use Rattle.judge.specs.declared.Standing.{Standing}
 use Rattle.judge.specs.System.{System, Trial, row, residual, reach}
-use Rattle.judge.specs.Judgement.{within, factor, no-factor, or-else, first-not, first-unmet, deciding, residuals, reaches, judgement}
+use Rattle.judge.specs.Judgement.{within, factor, no-factor, or-else, first-not, first-unmet, deciding, residuals, reaches, judgement, standing, deciding-place, concluded}
 
 module _ (p : ℕ → Bool) where
   -- ---- a loop's turn
@@ -78,7 +77,7 @@ first-not-cong p q zero h = refl
 first-not-cong p q (suc n) h =
     ap₂ or-else (first-not-cong p q n (λ i l. h i (omega arith))) (ap (λ b. cond b 0 (suc n)) (h n (omega arith)))
 
--- ---- the whole, from residuals and reaches in eight places
+-- ---- the whole, from its parts
 
 module _ (s : System) (t : Trial) (h : s .n ≤ 8) where
   pub at-residuals : (i : ℕ) → i < s .n → getD (residuals s t) i (pos 0) ≡ residual (row s i) t
@@ -91,17 +90,29 @@ module _ (s : System) (t : Trial) (h : s .n ≤ 8) where
   unfolding first-unmet
   unmet-is = first-not-cong _ _ (s .n) (λ i l. ap₂ within (at-residuals i l) (at-reaches i l))
 
-  deciding-is : first-greatest (λ i. factor (getD (residuals s t) i (pos 0)) (getD (reaches s t) i 0)) (s .n) ≡ deciding s t
-  unfolding deciding
+  -- the standing, from residuals and reaches in eight places
+  pub measured : (u : ℕ) (R : List ℤ) (T : List ℕ) → R ≡ residuals s t → T ≡ reaches s t
+      → u ≡ first-not (λ i. within (getD R i (pos 0)) (getD T i 0)) (s .n)
+      → record { unmet = u; residuals = R; reaches = T } ≡ standing s t
+  measured u R T eR eT eu = let u′ : u ≡ first-unmet s t = (rw (eR, eT) at eu) ∙ unmet-is in rw (eR, eT, u′)
+
+  deciding-is : deciding-place (s .n) (standing s t) ≡ deciding s t
+  unfolding deciding-place deciding
   deciding-is = first-greatest-cong _ _ (s .n) (λ i l. ap₂ factor (at-residuals i l) (at-reaches i l))
 
-  pub assembled : (u at : ℕ) (none : Bool) (R : List ℤ) (T : List ℕ) → R ≡ residuals s t → T ≡ reaches s t
-      → u ≡ first-not (λ i. within (getD R i (pos 0)) (getD T i 0)) (s .n)
-      → at ≡ first-greatest (λ i. factor (getD R i (pos 0)) (getD T i 0)) (s .n)
-      → none ≡ no-factor (getD R at (pos 0)) (getD T at 0)
-      → record { met = eqb u 0; unmet = u; none = none; decides = at + 1; residuals = R; reaches = T } ≡ judgement s t
-  unfolding judgement
-  assembled u at none R T eR eT eu ea en =
-      let u′ : u ≡ first-unmet s t = (rw (eR, eT) at eu) ∙ unmet-is in
-      let a′ : at ≡ deciding s t = (rw (eR, eT) at ea) ∙ deciding-is in
-      rw (en, eR, eT, u′, a′, add-one (deciding s t))
+  -- the judgement is concluded from the standing
+  pub judgement-concluded : concluded (s .n) (standing s t) ≡ judgement s t
+  unfolding concluded judgement
+  judgement-concluded = rw deciding-is
+
+-- what is concluded, from the place that decides
+pub conclusion : (n : ℕ) (p : Standing) (at : ℕ) (none : Bool) → at ≡ deciding-place n p
+    → none ≡ no-factor (getD (p .residuals) at (pos 0)) (getD (p .reaches) at 0)
+    → record { met = eqb (p .unmet) 0; unmet = p .unmet; none = none; decides = at + 1; residuals = p .residuals; reaches = p .reaches } ≡ concluded n p
+unfolding concluded
+conclusion n p at none ea en = rw (en, ea, add-one (deciding-place n p))
+
+-- a trial is met exactly if no row of its standing is unmet
+pub met-is : (s : System) (t : Trial) → judgement s t .met ≡ eqb (standing s t .unmet) 0
+unfolding judgement
+met-is s t = refl

@@ -2,6 +2,8 @@ pub mod System
 pub mod Changes
 pub mod Judgement
 pub mod Laws
+pub mod ZeroTrial
+pub mod Sizes
 pub mod OettliPrager
 pub mod Finding
 pub mod Theorem

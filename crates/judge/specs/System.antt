@@ -5,6 +5,7 @@ use Prim.Native.Nat.{ℕ, _+_, _*_}
 use lib.ListN.{getD}
 use lib.IntN.{ℤ, pos, natAbs, _-ℤ_, _*ℤ_}
 use Rattle.integers.specs.Sums.{sum, total}
+use Rattle.integers.specs.Tables.{table}
 
 -- A row: Σ A(j) x(j) = b, where A(j) is known within ± E(j) and b within ± f.
 pub record Row : Type 0 where
@@ -51,3 +52,7 @@ row s i =
 -- the figures Y of a list, over n tanks and the scale D
 abbrev pub trial : ℕ → ℕ → List ℤ → Trial
 trial n D Y = record { n = n; D = D; Y = λ j. getD Y j (pos 0) }
+
+-- the trial whose figures are all zero
+abbrev pub zero-trial : ℕ → ℕ → Trial
+zero-trial n D = trial n D (table 8 (λ _. pos 0))

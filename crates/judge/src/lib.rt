@@ -2,15 +2,29 @@
 use fractions::Order;
 use integers::magnitude;
 ghost use mathlib.Core.Path.{_≡_};
-ghost use mathlib.Core.List.{[]};
-ghost use Prim.Native.Nat.{_+_, _*_, _^_, _≤_, _<_};
+ghost use mathlib.Core.List.{List, []};
+ghost use Prim.Native.Nat.{ℕ, _+_, _*_, _^_, _≤_, _<_};
 ghost use lib.ListN.{getD};
-ghost use lib.IntN.{pos, natAbs, _-ℤ_, _*ℤ_};
+ghost use lib.IntN.{ℤ, pos, natAbs, _-ℤ_, _*ℤ_};
 ghost use Rattle.integers.specs.Sums.{sum, total};
 ghost use Rattle.fractions.specs.Fraction.{order};
 ghost use Rattle.fractions.specs.Greatest.{is-greater, first-greatest};
-ghost use Rattle.judge.specs.System.{system, trial as trialOf};
-ghost use Rattle.judge.specs.Judgement.{within, factor, no-factor, first-not, residuals as residualsOf, reaches as reachesOf, judgement};
+ghost use Rattle.judge.specs.System.{system, trial as trialOf, zero-trial};
+ghost use Rattle.judge.specs.Judgement.{within, factor, no-factor, first-not, residuals as residualsOf, reaches as reachesOf, judgement, standing, concluded};
+
+// D b of one row.
+fn scaled_side(scale: u16, right_side: i32) -> i64
+    ensures { λ r. ⌜ (r ≡ pos scale *ℤ «right_side») × (natAbs r ≤ 2 ^ 47) ⌝ }
+{
+    (scale as i64) * (right_side as i64)
+}
+
+// D f of one row.
+fn scaled_tolerance(scale: u16, right_tolerance: u32) -> u64
+    ensures { λ r. ⌜ (r ≡ scale * «right_tolerance») × (r ≤ 2 ^ 48) ⌝ }
+{
+    (scale as u64) * (right_tolerance as u64)
+}
 
 // R = D b − Σ A Y of the row whose coefficients start at `from`, the sum formed tank by tank from the first.
 fn row_residual<'a>(
@@ -32,7 +46,7 @@ fn row_residual<'a>(
         s += a * y;
         j += 1;
     }
-    (scale as i64) * (right_side as i64) - s
+    scaled_side(scale, right_side) - s
 }
 
 // E |Y| of one tank.
@@ -60,7 +74,7 @@ fn row_reach<'a>(
         t += weight(tolerances[from + j], trial[j]);
         j += 1;
     }
-    (scale as u64) * (right_tolerance as u64) + t
+    scaled_tolerance(scale, right_tolerance) + t
 }
 
 // The residual of every row; 0 past the last.
@@ -157,6 +171,64 @@ fn greatest_factor<'a>(n: usize, residuals: &'a [i64; 8], reaches: &'a [u64; 8])
     best
 }
 
+// What a trial leaves of each row. Rows are counted from 1.
+pub struct Standing {
+    // the first unmet row, or 0 where every row is met
+    pub unmet: usize,
+    // residual and reach of each row, 0 past the last row
+    pub residuals: [i64; 8],
+    pub reaches: [u64; 8],
+}
+
+// What a trial leaves of n rows over n tanks: enough to tell whether it is met.
+pub fn measure<'a>(
+    n: usize,
+    scale: u16,
+    coefficients: &'a [i16; 64],
+    tolerances: &'a [u16; 64],
+    right_sides: &'a [i32; 8],
+    right_tolerances: &'a [u32; 8],
+    trial: &'a [i32; 8],
+) -> Standing
+    requires { ⌜ n ≤ 8 ⌝ }
+    ensures { λ r. ⌜ r ≡ standing (system n (now (coefficients .entry)) (now (tolerances .entry)) (now («right_sides» .entry)) (now («right_tolerances» .entry))) (trialOf n scale (now (trial .entry))) ⌝ }
+{
+    let residuals = all_residuals(n, scale, coefficients, right_sides, trial);
+    let reaches = all_reaches(n, scale, tolerances, right_tolerances, trial);
+    let unmet = first_beyond(n, &residuals, &reaches);
+    Standing {
+        unmet,
+        residuals,
+        reaches,
+    }
+}
+
+// What the zero trial leaves: D b of each row, with the reach D f, whatever the coefficients and their tolerances are.
+pub fn measure_zero_trial<'a>(
+    n: usize,
+    scale: u16,
+    right_sides: &'a [i32; 8],
+    right_tolerances: &'a [u32; 8],
+) -> Standing
+    requires { ⌜ n ≤ 8 ⌝ }
+    ensures { λ r. ⌜ ((A : List ℤ) (E : List ℕ) → r ≡ standing (system n A E (now («right_sides» .entry)) (now («right_tolerances» .entry))) (zero-trial n scale)) ⌝ }
+{
+    let mut residuals = [0i64; 8];
+    let mut reaches = [0u64; 8];
+    let mut i = 0;
+    while i < n {
+        residuals[i] = scaled_side(scale, right_sides[i]);
+        reaches[i] = scaled_tolerance(scale, right_tolerances[i]);
+        i += 1;
+    }
+    let unmet = first_beyond(n, &residuals, &reaches);
+    Standing {
+        unmet,
+        residuals,
+        reaches,
+    }
+}
+
 // What is said of a trial. Rows are counted from 1.
 pub struct Judgement {
     // whether every row is met, and the first row that is not, or 0
@@ -168,6 +240,24 @@ pub struct Judgement {
     // residual and reach of each row, 0 past the last row
     pub residuals: [i64; 8],
     pub reaches: [u64; 8],
+}
+
+// The judgement of n rows, from what a trial leaves of them.
+pub fn conclude(n: usize, standing: Standing) -> Judgement
+    requires { ⌜ n ≤ 8 ⌝ }
+    ensures { λ r. ⌜ r ≡ concluded n standing ⌝ }
+{
+    let at = greatest_factor(n, &standing.residuals, &standing.reaches);
+    let residuals = standing.residuals;
+    let reaches = standing.reaches;
+    Judgement {
+        met: standing.unmet == 0,
+        unmet: standing.unmet,
+        none: lacks_factor(residuals[at], reaches[at]),
+        decides: at + 1,
+        residuals,
+        reaches,
+    }
 }
 
 // The judgement of a trial for n rows over n tanks, whoever proposed it.
@@ -183,16 +273,14 @@ pub fn judge<'a>(
     requires { ⌜ n ≤ 8 ⌝ }
     ensures { λ r. ⌜ r ≡ judgement (system n (now (coefficients .entry)) (now (tolerances .entry)) (now («right_sides» .entry)) (now («right_tolerances» .entry))) (trialOf n scale (now (trial .entry))) ⌝ }
 {
-    let residuals = all_residuals(n, scale, coefficients, right_sides, trial);
-    let reaches = all_reaches(n, scale, tolerances, right_tolerances, trial);
-    let unmet = first_beyond(n, &residuals, &reaches);
-    let at = greatest_factor(n, &residuals, &reaches);
-    Judgement {
-        met: unmet == 0,
-        unmet,
-        none: lacks_factor(residuals[at], reaches[at]),
-        decides: at + 1,
-        residuals,
-        reaches,
-    }
+    let standing = measure(
+        n,
+        scale,
+        coefficients,
+        tolerances,
+        right_sides,
+        right_tolerances,
+        trial,
+    );
+    conclude(n, standing)
 }

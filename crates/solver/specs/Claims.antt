@@ -26,7 +26,7 @@ pub record Advanced (p : Progress) (m : ℕ) (q : Progress) : Type 0 where
   pub more : p .rounds ≤ q .rounds
   pub few : q .rounds ≤ p .rounds + m
   pub some : q .within ≡ true → 0 < m → p .rounds < q .rounds
-  pub early : q .within ≡ true → q .rounds < p .rounds + m → q .judgement .met ≡ true
+  pub early : q .within ≡ true → q .rounds < p .rounds + m → q .standing .unmet ≡ 0
 
 -- the step, counted from 0, at which every candidate for the pivot is zero
 pub record Refused (s : System) : Type 0 where

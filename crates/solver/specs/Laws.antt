@@ -11,14 +11,14 @@ use lib.IntN.{ℤ, pos, natAbs}
 use borrow.Author.Tests.{le-leb, lt-leb, leb-true}
 use Rattle.integers.specs.Tables.{all-set-at}
 use Rattle.elimination.specs.Matrix.{Within}
-use Rattle.judge.specs.declared.Judgement.{Judgement}
+use Rattle.judge.specs.declared.Standing.{Standing}
 use Rattle.judge.specs.System.{System, trial}
-use Rattle.judge.specs.Judgement.{judgement}
+use Rattle.judge.specs.Judgement.{standing}
 use Rattle.substitution.specs.declared.Corrections.{Corrections}
 use Rattle.solver.specs.declared.Update.{Update}
 use Rattle.solver.specs.declared.Progress.{Progress}
-use Rattle.solver.specs.Refinement.{figure-limit, gain, gained-from, gained, ordered, substituted, updated, judged, refused, advanced, round, ended, refined}
-use Rattle.solver.specs.Limits.{Judged}
+use Rattle.solver.specs.Refinement.{figure-limit, gain, gained-from, gained, ordered, substituted, updated, measured, refused, advanced, round, ended, refined}
+use Rattle.solver.specs.Limits.{Measured}
 
 -- ---- the update, at a loop's turn: the rest of the work from here is all of it
 
@@ -61,34 +61,34 @@ gained-within n Y d h = go (d .within)
 -- ---- a round, by cases
 
 module _ (w : List (List ℤ)) (o : List ℕ) (s : System) (D : ℕ) where
-  pub round-cases : (P : Progress → Type 0) (p : Progress) → Judged s D p
-      → ((Y : List ℤ) → Within figure-limit Y → P (judged s D (suc (p .rounds)) Y)) → P (refused p) → P (round w o s D p)
+  pub round-cases : (P : Progress → Type 0) (p : Progress) → Measured s D p
+      → ((Y : List ℤ) → Within figure-limit Y → P (measured s D (suc (p .rounds)) Y)) → P (refused p) → P (round w o s D p)
   unfolding round updated
   round-cases P p h a b = go (updated w o s D (p .trial)) (gained-within (s .n) (p .trial) (substituted w (ordered o s (trial (s .n) D (p .trial))) (s .n)) (h .figures))
     where
       go : (u : Update) → Within figure-limit (u .trial) → P (advanced s D p u)
       go u k = pick (u .within)
         where
-          pick : (t : Bool) → P (cond t (judged s D (suc (p .rounds)) (u .trial)) (refused p))
+          pick : (t : Bool) → P (cond t (measured s D (suc (p .rounds)) (u .trial)) (refused p))
           pick true = a (u .trial) k
           pick false = b
 
-  -- as code finds it: the update u, and the judgement j of its trial
+  -- as code finds it: the update u, and the standing m of its trial
   module _ (p : Progress) (u : Update) (e : u ≡ updated w o s D (p .trial)) where
-    pub round-on : (j : Judgement) → u .within ≡ true → j ≡ judgement s (trial (s .n) D (u .trial))
-        → record { within = true; rounds = p .rounds + 1; trial = u .trial; judgement = j } ≡ round w o s D p
+    pub round-on : (m : Standing) → u .within ≡ true → m ≡ standing s (trial (s .n) D (u .trial))
+        → record { within = true; rounds = p .rounds + 1; trial = u .trial; standing = m } ≡ round w o s D p
     unfolding round
-    round-on j t q = rw (← e, t, q, add-one)
+    round-on m t q = rw (← e, t, q, add-one)
 
     pub round-refused : u .within ≡ false → refused p ≡ round w o s D p
     unfolding round
     round-refused t = rw (← e, t)
 
   -- the next state q, at a loop's turn
-  module _ (p q : Progress) (h : Judged s D p) (e : q ≡ round w o s D p) where
-    pub round-judged : Judged s D q
-    round-judged =
-        rw e (round-cases (Judged s D) p h (λ Y k. record { figures = k; judgement-is = refl }) (record { figures = h .figures; judgement-is = h .judgement-is }))
+  module _ (p q : Progress) (h : Measured s D p) (e : q ≡ round w o s D p) where
+    pub round-measured : Measured s D q
+    round-measured =
+        rw e (round-cases (Measured s D) p h (λ Y k. record { figures = k; standing-is = refl }) (record { figures = h .figures; standing-is = h .standing-is }))
 
     pub round-counts : q .rounds ≤ suc (p .rounds)
     round-counts = rw e (round-cases (λ r. r .rounds ≤ suc (p .rounds)) p h (λ Y k. omega arith) (omega arith))

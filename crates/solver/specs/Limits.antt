@@ -6,7 +6,7 @@ use lib.IntN.{ℤ}
 use Rattle.elimination.specs.Matrix.{Within}
 use Rattle.elimination.specs.Claims.{Factors, Permutation}
 use Rattle.judge.specs.System.{System, trial}
-use Rattle.judge.specs.Judgement.{judgement}
+use Rattle.judge.specs.Judgement.{standing}
 use Rattle.substitution.specs.Passes.{correction-limit}
 use Rattle.substitution.specs.Bounds.{right-limit}
 use Rattle.solver.specs.declared.Progress.{Progress}
@@ -24,23 +24,23 @@ pub record Eliminated (n : ℕ) (w : List (List ℤ)) (o : List ℕ) : Type 0 wh
   pub factors : Factors n w
   pub order : Permutation n o
 
--- a trial within its limits, beside its judgement
-pub record Judged (s : System) (D : ℕ) (p : Progress) : Type 0 where
+-- a trial within its limits, beside what it leaves of each row
+pub record Measured (s : System) (D : ℕ) (p : Progress) : Type 0 where
   pub figures : Within figure-limit (p .trial)
-  pub judgement-is : p .judgement ≡ judgement s (trial (s .n) D (p .trial))
+  pub standing-is : p .standing ≡ standing s (trial (s .n) D (p .trial))
 
 -- what a round asks; the last, that rounds can be counted on
 pub record Ready (w : List (List ℤ)) (o : List ℕ) (s : System) (D : ℕ) (p : Progress) : Type 0 where
   pub limits : Limits s D
   pub eliminated : Eliminated (s .n) w o
-  pub judged : Judged s D p
+  pub measured : Measured s D p
   pub countable : suc (p .rounds) < 2 ^ 64
 
 -- what the rounds ask, from the start on
 pub record Startable (w : List (List ℤ)) (o : List ℕ) (s : System) (D : ℕ) (p : Progress) : Type 0 where
   pub limits : Limits s D
   pub eliminated : Eliminated (s .n) w o
-  pub judged : Judged s D p
+  pub measured : Measured s D p
   pub none-made : p .rounds ≡ 0
 
 -- what an update asks, from the residuals R on

@@ -1,9 +1,13 @@
 -- The solution by the elimination's outcome, as the code finds it. Assumes nothing.
-use mathlib.Core.Path.{_≡_, refl, ap}
+use mathlib.Core.Path.{_≡_, refl, ap, _∙_}
 use mathlib.Core.List.{List}
-use Prim.Native.Nat.{ℕ}
+use Prim.Native.Nat.{ℕ, _≤_}
+use native.Mathlib.Omega.{arith}
 use lib.IntN.{ℤ}
-use Rattle.judge.specs.System.{System}
+use Rattle.judge.specs.declared.Judgement.{Judgement}
+use Rattle.judge.specs.System.{System, trial}
+use Rattle.judge.specs.Judgement.{judgement, concluded}
+use Rattle.judge.specs.Laws.{judgement-concluded}
 use Rattle.elimination.specs.declared.Elimination.the-variants as E
 use Rattle.elimination.specs.Steps.{eliminated}
 use Rattle.elimination.specs.Outcome.{outcome}
@@ -11,17 +15,28 @@ use Rattle.elimination.specs.OutcomeLaws.{complete-steps}
 use Rattle.elimination.specs.Factors.{factors}
 use Rattle.elimination.specs.Order.{permutation}
 use Rattle.solver.specs.declared.Progress.{Progress}
+use Rattle.solver.specs.declared.Status.{Status}
 use Rattle.solver.specs.declared.Status.the-variants.{ZeroPivot}
 use Rattle.solver.specs.Refinement.{start, refined}
 use Rattle.solver.specs.Solution.{kept, answered, solution}
-use Rattle.solver.specs.Limits.{Limits, Eliminated, Judged, Startable}
+use Rattle.solver.specs.Limits.{Limits, Eliminated, Measured, Startable}
 use Rattle.solver.specs.Sizes.{zero-within}
+
+-- ---- the kept trial, as the code finds it
+
+-- what is concluded from the standing beside a trial is the trial's judgement
+pub kept-concluded : (s : System) (D n : ℕ) (t : Status) (p : Progress) (j : Judgement) → s .n ≡ n → n ≤ 8 → Measured s D p → j ≡ concluded n (p .standing)
+    → record { status = t; rounds = p .rounds; trial = p .trial; judgement = j } ≡ kept s D t p
+kept-concluded s D n t p j e h m q =
+    let c : concluded n (p .standing) ≡ judgement s (trial (s .n) D (p .trial)) =
+    rw (← e, m .standing-is) (judgement-concluded s (trial (s .n) D (p .trial)) (omega arith)) in
+    ap (λ (k : Judgement). record { status = t; rounds = p .rounds; trial = p .trial; judgement = k }) (q ∙ c)
 
 -- ---- by the elimination's outcome
 
 module _ (s : System) (D : ℕ) where
-  pub start-judged : Judged s D (start s D)
-  start-judged = record { figures = zero-within; judgement-is = refl }
+  pub start-measured : (p : Progress) → p ≡ start s D → Measured s D p
+  start-measured p e = rw e (record { figures = zero-within; standing-is = refl })
 
   pub eliminated-whole : Limits s D → outcome (s .n) (eliminated (s .n) (s .coefficients) .steps) ≡ E.Complete
       → Eliminated (s .n) (eliminated (s .n) (s .coefficients) .rows) (eliminated (s .n) (s .coefficients) .order)
@@ -38,14 +53,14 @@ module _ (s : System) (D : ℕ) where
         record {
           limits = h;
           eliminated = rw (rows-are, order-is) (eliminated-whole h e);
-          judged = rw start-is start-judged;
+          measured = start-measured p start-is;
           none-made = ap (λ (q : Progress). q .rounds) start-is;
         }
 
-    pub solution-answered : (K : ℕ) (q : Progress) → q ≡ refined w o s D K p → outcome (s .n) (eliminated (s .n) (s .coefficients) .steps) ≡ E.Complete → answered q ≡ solution s D K
+    pub solution-answered : (K : ℕ) (q : Progress) → q ≡ refined w o s D K p → outcome (s .n) (eliminated (s .n) (s .coefficients) .steps) ≡ E.Complete → answered s D q ≡ solution s D K
     unfolding solution
     solution-answered K q f e = rw (e, f, rows-are, order-is, start-is)
 
-  pub solution-refused : (K k : ℕ) (p : Progress) → p ≡ start s D → outcome (s .n) (eliminated (s .n) (s .coefficients) .steps) ≡ E.ZeroPivot k → kept ZeroPivot p ≡ solution s D K
+  pub solution-refused : (K k : ℕ) (p : Progress) → p ≡ start s D → outcome (s .n) (eliminated (s .n) (s .coefficients) .steps) ≡ E.ZeroPivot k → kept s D ZeroPivot p ≡ solution s D K
   unfolding solution
   solution-refused K k p f e = rw (e, f)

@@ -3,12 +3,12 @@
 use mathlib.Core.Bool.{Bool, true, false, cond, not, _||_}
 use mathlib.Core.List.{List}
 use Prim.Native.Nat.{ℕ, zero, suc, _+_}
-use lib.Dec.{leb}
+use lib.Dec.{leb, eqb}
 use lib.ListN.{getD, set}
 use lib.IntN.{ℤ, pos, natAbs, _+ℤ_}
 use Rattle.integers.specs.Tables.{table, filled}
 use Rattle.judge.specs.System.{System, Trial, trial}
-use Rattle.judge.specs.Judgement.{residuals, judgement}
+use Rattle.judge.specs.Judgement.{residuals, standing}
 use Rattle.substitution.specs.declared.Corrections.{Corrections}
 use Rattle.substitution.specs.Passes.{forward, backward}
 use Rattle.solver.specs.declared.Update.{Update}
@@ -55,28 +55,28 @@ updated w o s D Y = gained (s .n) Y (substituted w (ordered o s (trial (s .n) D 
 
 -- ---- rounds
 
--- a trial after k rounds: "The new Y is judged."
-abbrev pub judged : System → ℕ → ℕ → List ℤ → Progress
-judged s D k Y = record { within = true; rounds = k; trial = Y; judgement = judgement s (trial (s .n) D Y) }
+-- a trial after k rounds, with what it leaves of each row: "The new Y is judged", and the row that decides is looked for in the kept one alone
+abbrev pub measured : System → ℕ → ℕ → List ℤ → Progress
+measured s D k Y = record { within = true; rounds = k; trial = Y; standing = standing s (trial (s .n) D Y) }
 
 -- "Y starts at zero."
 abbrev pub start : System → ℕ → Progress
-start s D = judged s D 0 (table 8 (λ _. pos 0))
+start s D = measured s D 0 (table 8 (λ _. pos 0))
 
 -- refusal 9: what stood before the round stays, with the mark
 abbrev pub refused : Progress → Progress
-refused p = record { within = false; rounds = p .rounds; trial = p .trial; judgement = p .judgement }
+refused p = record { within = false; rounds = p .rounds; trial = p .trial; standing = p .standing }
 
 abbrev pub advanced : System → ℕ → Progress → Update → Progress
-advanced s D p u = cond (u .within) (judged s D (suc (p .rounds)) (u .trial)) (refused p)
+advanced s D p u = cond (u .within) (measured s D (suc (p .rounds)) (u .trial)) (refused p)
 
--- "A round", document 01's term: from the residuals of the trial to the judgement of the next
+-- "A round", document 01's term: from the residuals of the trial to what the next leaves
 unfoldable pub round : List (List ℤ) → List ℕ → System → ℕ → Progress → Progress
 round w o s D p = advanced s D p (updated w o s D (p .trial))
 
--- "The first that is met ends the work", and so does a refusal
+-- "The first that is met ends the work": the first with no unmet row; and so does a refusal
 abbrev pub ended : Progress → Bool
-ended p = not (p .within) || p .judgement .met
+ended p = not (p .within) || eqb (p .standing .unmet) 0
 
 -- at most m rounds more: "after round K the last trial stands"
 unfoldable pub refined : List (List ℤ) → List ℕ → System → ℕ → ℕ → Progress → Progress

@@ -2,18 +2,18 @@
 use mathlib.Core.Path.{_≡_, ap, _∙_}
 use mathlib.Core.List.{List}
 use Prim.Native.Nat.{ℕ, _+_, _*_, _^_, _<_, _≤_}
-use native.Mathlib.Nat.{mul-le-mul}
+use native.Mathlib.Nat.{le-trans}
 use native.Mathlib.Omega.{arith}
 use lib.ListN.{getD}
-use lib.IntN.{ℤ, pos, natAbs, _*ℤ_}
-use Rattle.integers.specs.Size.{natAbs-*ℤ, natAbs-subℤ, natAbs-+ℤ}
-use Rattle.integers.specs.Sums.{sum, sum-bound}
+use lib.IntN.{ℤ, pos, natAbs}
+use Rattle.integers.specs.Size.{natAbs-+ℤ}
 use Rattle.integers.specs.Tables.{table, getD-filled, all-table, all-filled}
 use Rattle.elimination.specs.Matrix.{Within}
 use Rattle.judge.specs.System.{System, Trial, residual, row, trial}
-use Rattle.judge.specs.declared.Judgement.{Judgement}
-use Rattle.judge.specs.Judgement.{residuals, judgement}
+use Rattle.judge.specs.declared.Standing.{Standing}
+use Rattle.judge.specs.Judgement.{residuals, standing}
 use Rattle.judge.specs.Laws.{at-residuals}
+use Rattle.judge.specs.Sizes.{residual-size, standing-size}
 use Rattle.substitution.specs.Passes.{correction-limit, forward, backward}
 use Rattle.substitution.specs.Bounds.{right-limit, Forward, Backward}
 use Rattle.substitution.specs.ForwardLaws.{backward-ready}
@@ -32,34 +32,16 @@ limits-enough s D n d a b =
 -- ---- |R| ≤ 1,000 × 2 ^ 31 + 8 × 2 ^ 15 × 10,000,000
 
 module _ (s : System) (D : ℕ) (Y : List ℤ) (h : Limits s D) (k : Within figure-limit Y) where
-  term-le : (i j : ℕ) → natAbs (row s i .A j *ℤ getD Y j (pos 0)) ≤ 2 ^ 15 * figure-limit
-  term-le i j =
-      omega (arith, natAbs-*ℤ (row s i .A j) (getD Y j (pos 0)), mul-le-mul (h .coefficients (i * s .n + j)) (k j))
-
-  sum-le : (i : ℕ) → natAbs (sum (s .n) (λ j. row s i .A j *ℤ getD Y j (pos 0))) ≤ 8 * (2 ^ 15 * figure-limit)
-  sum-le i =
-      omega (
-        arith,
-        h .rows,
-        sum-bound (s .n) (2 ^ 15 * figure-limit) (λ j. row s i .A j *ℤ getD Y j (pos 0)) (λ j l. term-le i j),
-      )
-
-  scaled-le : (i : ℕ) → natAbs (pos D *ℤ row s i .b) ≤ 1000 * 2 ^ 31
-  scaled-le i = omega (arith, natAbs-*ℤ (pos D) (row s i .b), mul-le-mul (h .scale) (h .right-sides i))
+  enough : D * 2 ^ 31 + s .n * (2 ^ 15 * figure-limit) ≤ right-limit
+  enough = let d = h .scale in let n = h .rows in omega arith
 
   pub residual-le : (i : ℕ) → natAbs (residual (row s i) (trial (s .n) D Y)) ≤ right-limit
-  unfolding residual
   residual-le i =
-      omega (
-        arith,
-        natAbs-subℤ (pos D *ℤ row s i .b) (sum (s .n) (λ j. row s i .A j *ℤ getD Y j (pos 0))),
-        scaled-le i,
-        sum-le i,
-      )
+      le-trans (residual-size s (trial (s .n) D Y) (2 ^ 15) (2 ^ 31) figure-limit (h .coefficients) (h .right-sides) k i) enough
 
-  pub residuals-within : Within right-limit (residuals s (trial (s .n) D Y))
-  residuals-within =
-      all-filled (λ (z : ℤ). natAbs z ≤ right-limit) (pos 0) (omega arith) 8 (s .n) (λ i. residual (row s i) (trial (s .n) D Y)) (λ i l. residual-le i)
+  pub residuals-within : Within right-limit (standing s (trial (s .n) D Y) .residuals)
+  residuals-within i =
+      le-trans (standing-size s (trial (s .n) D Y) (2 ^ 15) (2 ^ 31) figure-limit (h .coefficients) (h .right-sides) k i) enough
 
 -- ---- in the elimination's order
 
@@ -87,23 +69,22 @@ module _ (n : ℕ) (w : List (List ℤ)) (o : List ℕ) (R Y : List ℤ) (h : Up
   gain-ready =
       record { places = h .places; figures = h .figures; corrections = backward-within w (forward w (permuted n o R) n) n }
 
--- ---- a round starts from the residuals that the trial's judgement holds
+-- ---- a round starts from the residuals that stand beside the trial
 
 module _ (w : List (List ℤ)) (o : List ℕ) (s : System) (D : ℕ) (p : Progress) (h : Ready w o s D p) where
-  held : p .judgement .residuals ≡ residuals s (trial (s .n) D (p .trial))
-  unfolding judgement
-  held = ap (λ (j : Judgement). j .residuals) (h .judged .judgement-is)
+  held : p .standing .residuals ≡ standing s (trial (s .n) D (p .trial)) .residuals
+  held = ap (λ (m : Standing). m .residuals) (h .measured .standing-is)
 
-  pub updatable : Updatable (s .n) w o (p .judgement .residuals) (p .trial)
+  pub updatable : Updatable (s .n) w o (p .standing .residuals) (p .trial)
   updatable =
       record {
         places = h .limits .rows;
         eliminated = h .eliminated;
-        residuals = rw held (residuals-within s D (p .trial) (h .limits) (h .judged .figures));
-        figures = h .judged .figures;
+        residuals = rw held (residuals-within s D (p .trial) (h .limits) (h .measured .figures));
+        figures = h .measured .figures;
       }
 
-  pub updated-from : (u : Update) → u ≡ gained (s .n) (p .trial) (substituted w (permuted (s .n) o (p .judgement .residuals)) (s .n)) → u ≡ updated w o s D (p .trial)
+  pub updated-from : (u : Update) → u ≡ gained (s .n) (p .trial) (substituted w (permuted (s .n) o (p .standing .residuals)) (s .n)) → u ≡ updated w o s D (p .trial)
   unfolding updated
   updated-from u e = rw held at e
 

@@ -1,7 +1,10 @@
 -- The answer of a system, or the refusal: document 01's "The steps" as a whole. Definitions only. Assumes nothing.
 use mathlib.Core.Bool.{cond}
+use mathlib.Core.List.{List}
 use Prim.Native.Nat.{ℕ}
-use Rattle.judge.specs.System.{System}
+use lib.IntN.{ℤ}
+use Rattle.judge.specs.System.{System, trial}
+use Rattle.judge.specs.Judgement.{judgement}
 use Rattle.elimination.specs.declared.Elimination.{Elimination}
 use Rattle.elimination.specs.declared.Elimination.the-variants.{Complete, ZeroPivot as Stopped}
 use Rattle.elimination.specs.Steps.{Run, eliminated}
@@ -19,12 +22,16 @@ refusal Answered = 0
 refusal ZeroPivot = 8
 refusal OutsideRange = 9
 
--- Which trial is kept is chosen here alone: the last, be it the first that is met or the one after round K.
-abbrev pub kept : Status → Progress → Solution
-kept t p = record { status = t; rounds = p .rounds; trial = p .trial; judgement = p .judgement }
+-- the trial Y after k rounds, judged
+abbrev pub judged : System → ℕ → Status → ℕ → List ℤ → Solution
+judged s D t k Y = record { status = t; rounds = k; trial = Y; judgement = judgement s (trial (s .n) D Y) }
 
-abbrev pub answered : Progress → Solution
-answered p = kept (cond (p .within) Answered OutsideRange) p
+-- Which trial is kept is chosen here alone: the last, be it the first that is met or the one after round K.
+abbrev pub kept : System → ℕ → Status → Progress → Solution
+kept s D t p = judged s D t (p .rounds) (p .trial)
+
+abbrev pub answered : System → ℕ → Progress → Solution
+answered s D p = kept s D (cond (p .within) Answered OutsideRange) p
 
 -- "Refusals 8 and 9 come only when .. K is at least 1": the rounds are made where the elimination is complete, and refusal 8 where it is not
 abbrev pub by-elimination : Elimination → Solution → Solution → Solution
@@ -35,8 +42,8 @@ by-elimination (Stopped k) a b = b
 abbrev pub solved : Run → System → ℕ → ℕ → Solution
 solved r s D K =
     by-elimination (outcome (s .n) (r .steps))
-    (answered (refined (r .rows) (r .order) s D K (start s D)))
-    (kept ZeroPivot (start s D))
+    (answered s D (refined (r .rows) (r .order) s D K (start s D)))
+    (kept s D ZeroPivot (start s D))
 
 -- the solution of a system over the scale D, in at most K rounds
 unfoldable pub solution : System → ℕ → ℕ → Solution

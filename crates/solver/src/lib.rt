@@ -1,18 +1,23 @@
-// The answer of a system of linear equations: one elimination, then rounds of refinement, each trial judged.
+// The answer of a system of linear equations: one elimination, then rounds of refinement, each trial measured, and the kept one judged.
 use elimination::Elimination;
 use elimination::eliminate;
 use integers::magnitude;
 use judge::Judgement;
-use judge::judge;
+use judge::Standing;
+use judge::conclude;
+use judge::measure;
+use judge::measure_zero_trial;
 use substitution::backward_pass;
 use substitution::forward_pass;
 ghost use mathlib.Core.Path.{_≡_};
-ghost use Prim.Native.Nat.{_≤_};
+ghost use mathlib.Core.List.{List};
+ghost use Prim.Native.Nat.{ℕ, _≤_};
+ghost use lib.IntN.{ℤ};
 ghost use Rattle.elimination.specs.Claims.{Permutation};
-ghost use Rattle.judge.specs.System.{system};
+ghost use Rattle.judge.specs.System.{System, system};
 ghost use Rattle.solver.specs.Refinement.{permuted, substituted, gained-from, gained, round as roundOf, ended as endedOf, refined, start as startOf};
 ghost use Rattle.solver.specs.Solution.{kept as keptOf, answered as answeredOf, solution};
-ghost use Rattle.solver.specs.Limits.{Limits, Gainable, Updatable, Ready, Startable};
+ghost use Rattle.solver.specs.Limits.{Limits, Measured, Gainable, Updatable, Ready, Startable};
 
 // A trial with its corrections, and whether every figure of it is within its limit.
 pub struct Update {
@@ -20,12 +25,12 @@ pub struct Update {
     pub trial: [i32; 8],
 }
 
-// A judged trial after so many rounds, and whether the last round stayed within its limits.
+// A trial after so many rounds with what it leaves of each row, and whether the last round stayed within its limits.
 pub struct Progress {
     pub within: bool,
     pub rounds: usize,
     pub trial: [i32; 8],
-    pub judgement: Judgement,
+    pub standing: Standing,
 }
 
 // The figures of the places in `order`, 0 past the n-th.
@@ -46,21 +51,19 @@ fn gained_figures(n: usize, trial: [i32; 8], corrections: &[i64; 8]) -> Update
     requires { ⌜ Gainable n trial (now corrections) ⌝ }
     ensures { λ r. ⌜ r ≡ gained-from (now (corrections .entry)) 0 n trial ⌝ }
 {
-    let mut y = trial;
-    for j in 0..n {
-        let v = (y[j] as i64) + corrections[j];
-        if 10000000 < magnitude(v) {
-            return Update {
-                within: false,
-                trial: y,
-            };
-        }
-        y[j] = v as i32;
-    }
-    Update {
+    let mut next = Update {
         within: true,
-        trial: y,
+        trial,
+    };
+    for j in 0..n {
+        let v = (next.trial[j] as i64) + corrections[j];
+        if 10000000 < magnitude(v) {
+            next.within = false;
+            return next;
+        }
+        next.trial[j] = v as i32;
     }
+    next
 }
 
 // The next trial, from the residuals of the last.
@@ -74,12 +77,11 @@ fn updated_trial<'a>(
     requires { ⌜ Updatable n (now rows) (now order) (now residuals) trial ⌝ }
     ensures { λ r. ⌜ r ≡ gained n trial (substituted (now (rows .entry)) (permuted n (now (order .entry)) (now (residuals .entry))) n) ⌝ }
 {
-    let z = ordered_figures(n, residuals, order);
-    let y = forward_pass(rows, z, n);
-    let d = backward_pass(rows, y, n);
+    let mut z = ordered_figures(n, residuals, order);
+    forward_pass(rows, &mut z, n);
+    let d = backward_pass(rows, &z, n);
     if d.within {
-        let values = d.values;
-        gained_figures(n, trial, &values)
+        gained_figures(n, trial, &d.values)
     } else {
         Update {
             within: false,
@@ -88,7 +90,7 @@ fn updated_trial<'a>(
     }
 }
 
-// One round: from a judged trial to the next, or the same with the mark of refusal 9.
+// One round: from a measured trial to the next, or the same with the mark of refusal 9.
 fn round<'a>(
     n: usize,
     scale: u16,
@@ -103,44 +105,41 @@ fn round<'a>(
     requires { ⌜ Ready (now rows) (now order) (system n (now coefficients) (now tolerances) (now «right_sides») (now «right_tolerances»)) scale progress ⌝ }
     ensures { λ r. ⌜ r ≡ roundOf (now (rows .entry)) (now (order .entry)) (system n (now (coefficients .entry)) (now (tolerances .entry)) (now («right_sides» .entry)) (now («right_tolerances» .entry))) scale progress ⌝ }
 {
-    let trial = progress.trial;
-    let judgement = progress.judgement;
-    let residuals = judgement.residuals;
-    let next = updated_trial(n, rows, order, &residuals, trial);
+    let next = updated_trial(n, rows, order, &progress.standing.residuals, progress.trial);
     if next.within {
-        let figures = next.trial;
-        let verdict = judge(
+        let standing = measure(
             n,
             scale,
             coefficients,
             tolerances,
             right_sides,
             right_tolerances,
-            &figures,
+            &next.trial,
         );
+        let trial = next.trial;
         let rounds = progress.rounds + 1;
         Progress {
             within: true,
             rounds,
-            trial: figures,
-            judgement: verdict,
+            trial,
+            standing,
         }
     } else {
-        Progress {
-            within: false,
-            rounds: progress.rounds,
-            trial,
-            judgement,
-        }
+        let mut last = progress;
+        last.within = false;
+        last
     }
 }
 
-// Whether the work ends here.
+// Whether the work ends here: no row is unmet, or refusal 9.
 fn ended(progress: Progress) -> bool
     ensures { λ r. ⌜ r ≡ endedOf progress ⌝ }
 {
-    let judgement = progress.judgement;
-    if progress.within { judgement.met } else { true }
+    if progress.within {
+        progress.standing.unmet == 0
+    } else {
+        true
+    }
 }
 
 // Rounds until one is met, or refused, or `rounds` of them are done.
@@ -196,56 +195,48 @@ pub struct Solution {
     pub judgement: Judgement,
 }
 
-// The trial to start from, which is zero, judged.
+// The trial to start from, which is zero, with what it leaves.
 fn start<'a>(
     n: usize,
     scale: u16,
-    coefficients: &'a [i16; 64],
-    tolerances: &'a [u16; 64],
     right_sides: &'a [i32; 8],
     right_tolerances: &'a [u32; 8],
 ) -> Progress
     requires { ⌜ n ≤ 8 ⌝ }
-    ensures { λ r. ⌜ r ≡ startOf (system n (now (coefficients .entry)) (now (tolerances .entry)) (now («right_sides» .entry)) (now («right_tolerances» .entry))) scale ⌝ }
+    ensures { λ r. ⌜ ((A : List ℤ) (E : List ℕ) → r ≡ startOf (system n A E (now («right_sides» .entry)) (now («right_tolerances» .entry))) scale) ⌝ }
 {
-    let trial = [0i32; 8];
-    let judgement = judge(
-        n,
-        scale,
-        coefficients,
-        tolerances,
-        right_sides,
-        right_tolerances,
-        &trial,
-    );
+    let standing = measure_zero_trial(n, scale, right_sides, right_tolerances);
     Progress {
         within: true,
         rounds: 0,
+        trial: [0i32; 8],
+        standing,
+    }
+}
+
+// The kept trial of n rows with its judgement, in whatever system it was measured.
+fn kept(n: usize, status: Status, progress: Progress) -> Solution
+    requires { ⌜ n ≤ 8 ⌝ }
+    ensures { λ r. ⌜ ((s : System) (D : ℕ) → s .n ≡ n → Measured s D progress → r ≡ keptOf s D status progress) ⌝ }
+{
+    let trial = progress.trial;
+    let judgement = conclude(n, progress.standing);
+    Solution {
+        status,
+        rounds: progress.rounds,
         trial,
         judgement,
     }
 }
 
-fn kept(status: Status, progress: Progress) -> Solution
-    ensures { λ r. ⌜ r ≡ keptOf status progress ⌝ }
-{
-    let answer = progress.trial;
-    let judgement = progress.judgement;
-    Solution {
-        status,
-        rounds: progress.rounds,
-        trial: answer,
-        judgement,
-    }
-}
-
-fn answered(progress: Progress) -> Solution
-    ensures { λ r. ⌜ r ≡ answeredOf progress ⌝ }
+fn answered(n: usize, progress: Progress) -> Solution
+    requires { ⌜ n ≤ 8 ⌝ }
+    ensures { λ r. ⌜ ((s : System) (D : ℕ) → s .n ≡ n → Measured s D progress → r ≡ answeredOf s D progress) ⌝ }
 {
     if progress.within {
-        kept(Status::Answered, progress)
+        kept(n, Status::Answered, progress)
     } else {
-        kept(Status::OutsideRange, progress)
+        kept(n, Status::OutsideRange, progress)
     }
 }
 
@@ -265,16 +256,9 @@ pub fn solve<'a>(
     let mut rows = [[0i64; 8]; 8];
     let mut order = [0usize; 8];
     let outcome = eliminate(n, coefficients, &mut rows, &mut order);
-    let first = start(
-        n,
-        scale,
-        coefficients,
-        tolerances,
-        right_sides,
-        right_tolerances,
-    );
+    let first = start(n, scale, right_sides, right_tolerances);
     match outcome {
-        Elimination::ZeroPivot(_) => kept(Status::ZeroPivot, first),
+        Elimination::ZeroPivot(_) => kept(n, Status::ZeroPivot, first),
         Elimination::Complete => {
             let last = refine(
                 n,
@@ -288,7 +272,7 @@ pub fn solve<'a>(
                 rounds,
                 first,
             );
-            answered(last)
+            answered(n, last)
         }
     }
 }

@@ -1,5 +1,6 @@
 // Substitution with eliminated rows: the forward pass with the multipliers, the backward pass with the pivots.
 use integers::magnitude;
+use rounding::rounded_by_scale;
 use rounding::rounded_quotient;
 ghost use mathlib.Core.Path.{_≡_};
 ghost use Rattle.substitution.specs.Passes.{reduced, forward, sum-above, correction, backward};
@@ -20,7 +21,7 @@ fn reduced_entry(row: &[i64; 8], z: &[i64; 8], i: usize) -> i64
 {
     let mut s = z[i];
     for j in 0..i {
-        s = s - rounded_quotient(row[j] * z[j], 16384);
+        s = s - rounded_by_scale(row[j] * z[j]);
     }
     s
 }
@@ -46,42 +47,35 @@ fn correction_of(row: &[i64; 8], z: i64, d: &[i64; 8], i: usize, n: usize) -> i6
     rounded_quotient(256 * z - above, row[i])
 }
 
-// The right-hand side with every entry reduced by the multipliers, from the top. Entries past the rows stay as they are.
-pub fn forward_pass(rows: &[[i64; 8]; 8], right: [i64; 8], n: usize) -> [i64; 8]
-    requires { ⌜ Forward (now rows) right n ⌝ }
-    ensures { λ r. ⌜ r ≡ forward (now (rows .entry)) right n ⌝ }
+// Every entry of the right-hand side reduced by the multipliers, from the top, in place. Entries past the rows stay as they are.
+pub fn forward_pass(rows: &[[i64; 8]; 8], z: &mut [i64; 8], n: usize)
+    requires { ⌜ Forward (now rows) (now z) n ⌝ }
+    ensures { λ r. ⌜ now (z .exit) ≡ forward (now (rows .entry)) (now (z .entry)) n ⌝ }
 {
-    let mut z = right;
     for i in 0..n {
-        let row = rows[i];
-        let s = reduced_entry(&row, &z, i);
-        z[i] = s;
+        z[i] = reduced_entry(&rows[i], z, i);
     }
-    z
 }
 
 // The corrections, from the last row to the first. The first outside its limit ends the pass; those not formed stand as 0.
-pub fn backward_pass(rows: &[[i64; 8]; 8], z: [i64; 8], n: usize) -> Corrections
-    requires { ⌜ Backward (now rows) z n ⌝ }
-    ensures { λ r. ⌜ r ≡ backward (now (rows .entry)) z n ⌝ }
+pub fn backward_pass(rows: &[[i64; 8]; 8], z: &[i64; 8], n: usize) -> Corrections
+    requires { ⌜ Backward (now rows) (now z) n ⌝ }
+    ensures { λ r. ⌜ r ≡ backward (now (rows .entry)) (now (z .entry)) n ⌝ }
 {
-    let mut d = [0i64; 8];
+    let mut d = Corrections {
+        within: true,
+        values: [0i64; 8],
+    };
     let mut left = n;
     while 0 < left {
         let i = left - 1;
-        let row = rows[i];
-        let v = correction_of(&row, z[i], &d, i, n);
+        let v = correction_of(&rows[i], z[i], &d.values, i, n);
         if 20000000 < magnitude(v) {
-            return Corrections {
-                within: false,
-                values: d,
-            };
+            d.within = false;
+            return d;
         }
-        d[i] = v;
+        d.values[i] = v;
         left = i;
     }
-    Corrections {
-        within: true,
-        values: d,
-    }
+    d
 }

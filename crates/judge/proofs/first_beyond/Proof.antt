@@ -69,7 +69,7 @@ returns c =
     let d = c .before in
     let t : test′ d (i′ d) ≡ false = lt-leb _ _ (rw (size d) at (c .if1 .taken)) in
     let h = first-not-here (test′ d) (i′ d) (d .before .before .before .before .loop .inv .1) t in
-    rw (add-one (i′ d)) (sym (first-not-stays (test′ d) (i′ d + 1) (start d .args .n) (i′ d) (omega arith) (h ∙ add-one (i′ d))))
+    sym (first-not-stays (test′ d) (i′ d + 1) (start d .args .n) (i′ d) (omega arith) (h ∙ add-one (i′ d)) ∙ sym (add-one (i′ d)))
 
 add-i : tie.Need-add-i Inv-loop μ-loop
 add-i c = search needs

@@ -1,8 +1,7 @@
 -- `judge::lacks_factor` meets its contract, by its two tests. Assumes nothing.
-use mathlib.Core.Path.{_≡_, ap, sym}
-use mathlib.Core.Bool.{not}
+use mathlib.Core.Path.{_≡_}
+use mathlib.Core.Bool.{true, false}
 use lib.Dec.{eqb}
-use lib.IntN.{natAbs}
 use mir.Facts.{toZ-ofZ}
 use borrow.Author.Needs.{needs}
 use borrow.Author.Tests.{eq-eqb, ne-eqb}
@@ -16,10 +15,10 @@ returns : tie.Need-returns
 returns c =
     let f = c .before .before .fits .residual in
     let e = simp toZ-ofZ at (c .magnitude .ensures) in
-    rw (eq-eqb _ _ (c .before .if1 .taken), e)
+    let z : eqb (c .before .before .args .reach) 0 ≡ true = eq-eqb _ _ (c .before .if1 .taken) in rw (z, e)
 
 returns-2 : tie.Need-returns-2
-returns-2 c = rw (ne-eqb _ _ (c .if1 .left))
+returns-2 c = let z : eqb (c .before .args .reach) 0 ≡ false = ne-eqb _ _ (c .if1 .left) in rw z
 
 pub lacks-factor-spec : {M : Type 1} → statement M
 lacks-factor-spec = tie.close (tie.spec magnitude-requires returns returns-2)

@@ -1,10 +1,8 @@
 -- `judge::row_reach` meets its contract. The loop's invariant: the accumulator is the sum of exactly the terms so far, each of which is at most
 -- 2 ^ 47. Assumes nothing.
 use mathlib.Core.Path.{_≡_, ap, ap₂, _∙_}
-use Prim.Native.Nat.{ℕ, _+_, _*_, _-_, _^_, _≤_, _<_}
-use native.Mathlib.Nat.{mul-le-mul, le-trans}
+use Prim.Native.Nat.{ℕ, _+_, _*_, _-_, _^_, _≤_}
 use native.Mathlib.Omega.{arith}
-use lib.Dec.{lit≤}
 use lib.ListN.{getD}
 use lib.IntN.{ℤ, pos, natAbs}
 use mir.Syntax.{w32}
@@ -74,25 +72,19 @@ loop-again c = (
   omega (arith, c .weight .ensures .1),
 )
 
--- D f fits beside the sum
-scaled : (d f : ℕ) → d < 2 ^ 16 → f < 2 ^ 32 → d * f ≤ 2 ^ 48
-scaled d f h k = le-trans (mul-le-mul {n₂ = 2 ^ 16} {m₂ = 2 ^ 32} (omega arith) (omega arith)) (lit≤ tt)
-
-scaled′ : (c : tie.After-loop Inv-loop μ-loop) → c .before .before .args .scale * c .before .before .args .right-tolerance ≤ 2 ^ 48
-scaled′ c = scaled _ _ (c .before .before .fits .scale .fits) (c .before .before .fits .right-tolerance .fits)
-
-mul-result : tie.Need-mul-result Inv-loop μ-loop
-mul-result c = omega (arith, scaled′ c)
+scaled-tolerance-requires : tie.Need-scaled-tolerance-requires Inv-loop μ-loop
+scaled-tolerance-requires c κs = search needs
 
 add-result : tie.Need-add-result Inv-loop μ-loop
-add-result c = omega (arith, scaled′ c)
+add-result c = omega (arith, c .scaled-tolerance .ensures .1)
 
 returns : tie.Need-returns Inv-loop μ-loop
 returns c =
-    let g = c .before .before .args in
-    let q : c .before .loop .j ≡ g .n = omega arith in
-    ap (λ t. g .scale * g .right-tolerance + t)
-    (c .before .loop .inv .1 ∙ ap (λ (m : ℕ). total m (λ k. getD (g .tolerances .now) (g .from + k) 0 * natAbs (getD (g .trial .now) k (pos 0)))) q)
+    let l = c .before .before in
+    let g = l .before .args in
+    let q : l .loop .j ≡ g .n = omega arith in
+    ap₂ (λ d t. d + t) (c .scaled-tolerance .ensures .0)
+    (l .loop .inv .1 ∙ ap (λ (m : ℕ). total m (λ k. getD (g .tolerances .now) (g .from + k) 0 * natAbs (getD (g .trial .now) k (pos 0)))) q)
 
 pub row-reach-spec : {M : Type 1} → statement M
 row-reach-spec =
@@ -111,6 +103,6 @@ row-reach-spec =
     add-j
     loop-less
     loop-again
-    mul-result
+    scaled-tolerance-requires
     add-result
     returns)

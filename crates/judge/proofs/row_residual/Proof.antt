@@ -1,13 +1,13 @@
 -- `judge::row_residual` meets its contract. The loop's invariant: after each tank the running sum is that of exactly the products so far, each of
 -- which is below 2 ^ 46 by the types of its factors. Assumes nothing.
-use mathlib.Core.Path.{_≡_, ap, ap₂, _∙_}
+use mathlib.Core.Path.{_≡_, ap, _∙_}
 use Prim.Native.Nat.{ℕ, _+_, _*_, _-_, _^_, _≤_, _<_}
 use native.Mathlib.Omega.{arith}
 use lib.ListN.{getD}
 use lib.IntN.{ℤ, pos, natAbs, _+ℤ_, _-ℤ_, _*ℤ_}
 use mir.Syntax.{w16, w32, w64}
-use mir.Val.{SFits, toZ}
-use mir.Facts.{toZ-ofZ, toZ-pos}
+use mir.Val.{SFits, toZ, ofZ}
+use mir.Facts.{toZ-ofZ}
 use borrow.Author.Needs.{needs}
 use Rattle.integers.specs.Size.{at-most, bounds, sfits-by, size-by, size-sfits, widen, natAbs-+ℤ}
 use Rattle.integers.specs.Sums.{sum, sum-more}
@@ -44,14 +44,9 @@ module _ (a y s : ℤ) (j : ℕ) (l : j < 8) (fa : SFits w16 a) (fy : SFits w32 
   grown : natAbs (s +ℤ a *ℤ y) ≤ (j + 1) * 2 ^ 46
   grown = omega (arith, natAbs-+ℤ s (a *ℤ y), product)
 
--- the last two operations
-module _ (d : ℕ) (b s : ℤ) (fd : d < 2 ^ 16) (fb : SFits w32 b) (fs : natAbs s ≤ 2 ^ 49) where
-  last : SFits w64 b × SFits w64 (pos d *ℤ b) × SFits w64 (pos d *ℤ b -ℤ s)
-  last =
-      let x = at-most b (2 ^ 31) (size-sfits fb) in
-      let z = at-most (pos d) (2 ^ 16) (omega arith) in
-      let t = at-most s (2 ^ 49) fs in
-      (sfits-by (search bounds) tt, sfits-by (search bounds) tt, sfits-by (search bounds) tt)
+-- the last operation
+last : (b s : ℤ) → natAbs b ≤ 2 ^ 47 → natAbs s ≤ 2 ^ 49 → SFits w64 (b -ℤ s)
+last b s fb fs = let x = at-most b (2 ^ 47) fb in let t = at-most s (2 ^ 49) fs in sfits-by (search bounds) tt
 
 module _ (c : tie.After-y Inv-loop μ-loop) where
   abbrev start : tie.Start Inv-loop μ-loop
@@ -130,49 +125,38 @@ loop-again c =
       simp toZ-ofZ g,
     )
 
-cast-result : tie.Need-cast-result Inv-loop μ-loop
-cast-result c = search needs
+scaled-side-requires : tie.Need-scaled-side-requires Inv-loop μ-loop
+scaled-side-requires c κs = search needs
 
-module _ (c : tie.After-loop Inv-loop μ-loop) where
+module _ (c : tie.After-scaled-side Inv-loop μ-loop) where
   abbrev b′ : ℤ
-  b′ = c .before .before .args .right-side
+  b′ = c .before .before .before .args .right-side
 
   abbrev t′ : ℤ
-  t′ = toZ w64 (c .before .loop .s)
+  t′ = toZ w64 (c .before .before .loop .s)
 
-  d-is : toZ w64 (c .before .before .args .scale) ≡ pos (c .before .before .args .scale)
-  d-is = toZ-pos w64 (omega arith)
+  side-is : toZ w64 (ofZ w64 (c .scaled-side .result)) ≡ pos (c .before .before .before .args .scale) *ℤ b′
+  side-is =
+      let f = c .before .before .before .fits .right-side in
+      toZ-ofZ {w = w64} (record { sfits = c .scaled-side .ok }) ∙ simp toZ-ofZ at (c .scaled-side .ensures .0)
 
-  last′ : SFits w64 b′ × SFits w64 (pos (c .before .before .args .scale) *ℤ b′) × SFits w64 (pos (c .before .before .args .scale) *ℤ b′ -ℤ t′)
-  last′ = last (c .before .before .args .scale) b′ t′ (c .before .before .fits .scale .fits) (c .before .before .fits .right-side) (omega arith)
-
-cast-result-2 : tie.Need-cast-result-2 Inv-loop μ-loop
-cast-result-2 c = let fb = c .before .before .fits .right-side in let (f₁, f₂, f₃) = last′ c in simp toZ-ofZ f₁
-
-mul-result : tie.Need-mul-result Inv-loop μ-loop
-mul-result c =
-    let fb = c .before .before .fits .right-side in
-    let (f₁, f₂, f₃) = last′ c in
-    let e = d-is c in
-    simp (toZ-ofZ, e) f₂
+  last′ : SFits w64 (pos (c .before .before .before .args .scale) *ℤ b′ -ℤ t′)
+  last′ =
+      let f = c .before .before .before .fits .right-side in
+      let e = simp toZ-ofZ at (c .scaled-side .ensures .0) in
+      last (pos (c .before .before .before .args .scale) *ℤ b′) t′ (rw e at (c .scaled-side .ensures .1)) (omega arith)
 
 sub-result : tie.Need-sub-result Inv-loop μ-loop
-sub-result c =
-    let fb = c .before .before .fits .right-side in
-    let (f₁, f₂, f₃) = last′ c in
-    let e = d-is c in
-    simp (toZ-ofZ, e) f₃
+sub-result c = rw (side-is c) (last′ c)
 
 returns : tie.Need-returns Inv-loop μ-loop
 returns c =
-    let g = c .before .before .args in
-    let fb = c .before .before .fits .right-side in
-    let (f₁, f₂, f₃) = last′ c in
-    let e = d-is c in
-    let q : c .before .loop .j ≡ g .n = omega arith in
-    simp (toZ-ofZ, e)
+    let l = c .before .before in
+    let g = l .before .args in
+    let q : l .loop .j ≡ g .n = omega arith in
+    rw (side-is c, toZ-ofZ (last′ c))
     (ap (λ t. pos (g .scale) *ℤ b′ c -ℤ t)
-    (c .before .loop .inv .1 ∙ ap (λ (m : ℕ). sum m (λ k. getD (g .coefficients .now) (g .from + k) (pos 0) *ℤ getD (g .trial .now) k (pos 0))) q))
+    (l .loop .inv .1 ∙ ap (λ (m : ℕ). sum m (λ k. getD (g .coefficients .now) (g .from + k) (pos 0) *ℤ getD (g .trial .now) k (pos 0))) q))
 
 pub row-residual-spec : {M : Type 1} → statement M
 row-residual-spec =
@@ -193,8 +177,6 @@ row-residual-spec =
     add-j
     loop-less
     loop-again
-    cast-result
-    cast-result-2
-    mul-result
+    scaled-side-requires
     sub-result
     returns)

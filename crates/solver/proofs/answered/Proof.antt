@@ -11,10 +11,10 @@ kept-requires-2 : tie.Need-kept-requires-2
 kept-requires-2 c κs = search needs
 
 returns : tie.Need-returns
-returns c = rw (c .before .if1 .taken) (c .kept .ensures)
+returns c s D e m = rw (c .before .if1 .taken) (c .kept .ensures s D e m)
 
 returns-2 : tie.Need-returns-2
-returns-2 c = rw (c .before .if1 .left) (c .kept2 .ensures)
+returns-2 c s D e m = rw (c .before .if1 .left) (c .kept2 .ensures s D e m)
 
 pub answered-spec : {M : Type 1} → statement M
 answered-spec = tie.close (tie.spec kept-requires kept-requires-2 returns returns-2)

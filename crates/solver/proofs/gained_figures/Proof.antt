@@ -1,6 +1,7 @@
 -- `solver::gained_figures` meets its contract. The loop's invariant: the figures left to form, from those formed, give the whole.
 -- Assumes nothing.
-use mathlib.Core.Path.{_≡_, sym, ap, _∙_}
+use mathlib.Core.Path.{_≡_, refl, sym, ap, _∙_}
+use mathlib.Core.Bool.{Bool, true}
 use mathlib.Core.List.{List}
 use Prim.Native.Nat.{ℕ, _-_, _≤_}
 use native.Mathlib.Nat.{sub-zero}
@@ -21,15 +22,19 @@ use Rattle.solver.proofs.gained_figures.Statement.{statement}
 use Rattle.solver.proofs.gained_figures.Tie as tie
 
 abbrev Inv-loop : tie.InvT-loop
-Inv-loop n corrections y₀ j₀ y j = (j ≤ n) × Within figure-limit y × (gained-from corrections j (n - j) y ≡ gained-from corrections 0 n y₀)
+Inv-loop n corrections next₀ j₀ next j =
+    (j ≤ n)
+    × Within figure-limit (next .trial)
+    × (gained-from corrections j (n - j) (next .trial) ≡ gained-from corrections 0 n (next₀ .trial))
+    × (next .within ≡ true)
 
 abbrev μ-loop : tie.MeasureT-loop
-μ-loop n corrections y₀ j₀ y j = n - j
+μ-loop n corrections next₀ j₀ next j = n - j
 
 -- at the loop's head: the figures so far, the corrections, and the tank
 module _ (c : tie.At-loop Inv-loop μ-loop) where
   abbrev y′ : List ℤ
-  y′ = c .loop .y
+  y′ = c .loop .next .trial
 
   abbrev d′ : List ℤ
   d′ = c .before .args .corrections .now
@@ -70,13 +75,13 @@ gain-is : (c : tie.After-magnitude Inv-loop μ-loop) → c .magnitude .result �
 gain-is c = c .magnitude .ensures ∙ ap natAbs (read-gain (c .before))
 
 loop-holds : tie.Need-loop-holds Inv-loop μ-loop
-loop-holds c = (omega arith, c .pre .figures, rw (sub-zero (c .args .n)))
+loop-holds c = (omega arith, c .pre .figures, rw (sub-zero (c .args .n)), refl)
 
 mul-v : tie.Need-mul-v Inv-loop μ-loop
 mul-v c = omega arith
 
-array-copy-out-v : tie.Need-array-copy-out-v Inv-loop μ-loop
-array-copy-out-v c = omega arith
+element-copy-out-v : tie.Need-element-copy-out-v Inv-loop μ-loop
+element-copy-out-v c = omega arith
 
 cast-v : tie.Need-cast-v Inv-loop μ-loop
 cast-v c = let d = c .before .before in rw (read-narrow d) (wide d)
@@ -84,8 +89,8 @@ cast-v c = let d = c .before .before in rw (read-narrow d) (wide d)
 mul-v-2 : tie.Need-mul-v-2 Inv-loop μ-loop
 mul-v-2 c = omega arith
 
-element-copy-out-v : tie.Need-element-copy-out-v Inv-loop μ-loop
-element-copy-out-v c = omega arith
+element-copy-out-v-2 : tie.Need-element-copy-out-v-2 Inv-loop μ-loop
+element-copy-out-v-2 c = omega arith
 
 add-v : tie.Need-add-v Inv-loop μ-loop
 add-v c = let d = head c in rw (read-narrow d, read-correction d, toZ-ofZ (wide d)) (sum-fits d)
@@ -110,14 +115,14 @@ module _ (c : tie.Else1 Inv-loop μ-loop) where
   narrow : SFits w32 (gain (y′ head′) (d′ head′) (j′ head′))
   narrow = sfits-size (omega (arith, kept))
 
-cast-y : tie.Need-cast-y Inv-loop μ-loop
-cast-y c = rw (read-gain (c .before .before)) (narrow c)
+cast-next : tie.Need-cast-next Inv-loop μ-loop
+cast-next c = rw (read-gain (c .before .before)) (narrow c)
 
-mul-y : tie.Need-mul-y Inv-loop μ-loop
-mul-y c = omega arith
+mul-t8 : tie.Need-mul-t8 Inv-loop μ-loop
+mul-t8 c = omega arith
 
-array-set-from-y : tie.Need-array-set-from-y Inv-loop μ-loop
-array-set-from-y c = omega arith
+element-set-from-next : tie.Need-element-set-from-next Inv-loop μ-loop
+element-set-from-next c = omega arith
 
 add-j : tie.Need-add-j Inv-loop μ-loop
 add-j c = omega arith
@@ -132,12 +137,14 @@ loop-again c =
       omega arith,
       all-set-at (λ (_ : ℕ) (x : ℤ). natAbs x ≤ figure-limit) (pos 0) (y′ d) (j′ d) (gain (y′ d) (d′ d) (j′ d)) (kept c) (d .loop .inv .1),
       sym (gained-more (d′ d) (j′ d) (n′ d) (y′ d) (omega arith) (kept c)) ∙ d .loop .inv .2,
+      d .loop .inv .3,
     )
 
 returns-2 : tie.Need-returns-2 Inv-loop μ-loop
 returns-2 c =
     let d = c .before in
-    sym (sym (d .loop .inv .2) ∙ gained-done (d′ d) (j′ d) (n′ d) (y′ d) (omega arith))
+    ap (λ (b : Bool). record { within = b; trial = y′ d }) (d .loop .inv .3)
+    ∙ sym (sym (d .loop .inv .2) ∙ gained-done (d′ d) (j′ d) (n′ d) (y′ d) (omega arith))
 
 pub gained-figures-spec : {M : Type 1} → statement M
 gained-figures-spec =
@@ -147,16 +154,16 @@ gained-figures-spec =
     μ-loop
     loop-holds
     mul-v
-    array-copy-out-v
+    element-copy-out-v
     cast-v
     mul-v-2
-    element-copy-out-v
+    element-copy-out-v-2
     add-v
     magnitude-requires
     returns
-    cast-y
-    mul-y
-    array-set-from-y
+    cast-next
+    mul-t8
+    element-set-from-next
     add-j
     loop-less
     loop-again

@@ -3,11 +3,11 @@
 use mathlib.Core.Path.{_≡_, refl}
 use Prim.Native.Nat.{_-_, _≤_}
 use native.Mathlib.Omega.{arith}
-use borrow.Author.Needs.{needs}
 use lib.ListN.{getD}
 use lib.IntN.{pos}
 use mir.Syntax.{w64}
 use mir.Val.{toZ, ofZ}
+use mir.Facts.{toZ-ofZ}
 use Rattle.integers.specs.Tables.{filled, filled-more}
 use Rattle.solver.proofs.ordered_figures.Statement.{statement}
 use Rattle.solver.proofs.ordered_figures.Tie as tie
@@ -56,7 +56,7 @@ loop-again c =
     let f = d .before .args .figures .now in
     let o = d .before .args .order .now in
     let v = getD f (getD o (d .loop .i) 0) (pos 0) in
-    let e : toZ w64 (ofZ w64 v) ≡ v = search needs in
+    let e : toZ w64 (ofZ w64 v) ≡ v = toZ-ofZ {w = w64} (record { sfits = c .z .given }) in
     (omega arith, rw (e, d .loop .inv .1) (filled-more (pos 0) (λ k. getD f (getD o k 0) (pos 0)) 8 (d .loop .i) (omega arith)))
 
 returns : tie.Need-returns Inv-loop μ-loop

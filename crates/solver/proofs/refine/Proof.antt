@@ -9,15 +9,15 @@ use lib.IntN.{ℤ}
 use Rattle.judge.specs.System.{System, system}
 use Rattle.solver.specs.declared.Progress.{Progress}
 use Rattle.solver.specs.Refinement.{round, ended, refined}
-use Rattle.solver.specs.Limits.{Judged}
-use Rattle.solver.specs.Laws.{round-judged, round-counts, refined-none, refined-more, refined-ended}
+use Rattle.solver.specs.Limits.{Measured}
+use Rattle.solver.specs.Laws.{round-measured, round-counts, refined-none, refined-more, refined-ended}
 use Rattle.solver.proofs.refine.Statement.{statement}
 use Rattle.solver.proofs.refine.Tie as tie
 
 abbrev Inv-loop : tie.InvT-loop
 Inv-loop n scale coefficients tolerances right-sides right-tolerances rows order rounds progress₀ left₀ progress left =
     (progress .rounds + left ≤ rounds)
-    × Judged (system n coefficients tolerances right-sides right-tolerances) scale progress
+    × Measured (system n coefficients tolerances right-sides right-tolerances) scale progress
     × (refined rows order (system n coefficients tolerances right-sides right-tolerances) scale left progress ≡ refined rows order (system n coefficients tolerances right-sides right-tolerances) scale rounds progress₀)
 
 abbrev μ-loop : tie.MeasureT-loop
@@ -42,7 +42,7 @@ module _ (c : tie.At-loop Inv-loop μ-loop) where
   p′ = c .loop .progress
 
 loop-holds : tie.Need-loop-holds Inv-loop μ-loop
-loop-holds c = (omega (arith, c .pre .none-made), c .pre .judged, refl)
+loop-holds c = (omega (arith, c .pre .none-made), c .pre .measured, refl)
 
 round-requires : tie.Need-round-requires Inv-loop μ-loop
 round-requires c κs =
@@ -50,7 +50,7 @@ round-requires c κs =
     record {
       limits = d .before .pre .limits;
       eliminated = d .before .pre .eliminated;
-      judged = d .loop .inv .1;
+      measured = d .loop .inv .1;
       countable = omega (arith, d .loop .inv .0, d .before .fits .rounds);
     }
 
@@ -75,7 +75,7 @@ loop-again c =
     let r = c .before .before .round in
     let d = c .before .before .before .before in (
       omega (arith, d .loop .inv .0, round-counts (w′ d) (o′ d) (s′ d) (D′ d) (p′ d) (r .result) (d .loop .inv .1) (r .ensures)),
-      round-judged (w′ d) (o′ d) (s′ d) (D′ d) (p′ d) (r .result) (d .loop .inv .1) (r .ensures),
+      round-measured (w′ d) (o′ d) (s′ d) (D′ d) (p′ d) (r .result) (d .loop .inv .1) (r .ensures),
       refined-more (w′ d) (o′ d) (s′ d) (D′ d) (d .loop .left) (p′ d) (r .result) (omega arith) (r .ensures) (sym (c .before .ended .ensures) ∙ c .if1 .left)
           ∙ d .loop .inv .2,
     )

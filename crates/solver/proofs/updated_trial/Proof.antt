@@ -22,25 +22,35 @@ module _ (c : tie.Start) where
   abbrev z′ : List ℤ
   z′ = permuted (c .args .n) (c .args .order .now) (c .args .residuals .now)
 
-forward-is : (c : tie.After-forward-pass) → c .forward-pass .result ≡ forward (w′ (c .before .before)) (z′ (c .before .before)) (n′ (c .before .before))
-forward-is c = c .forward-pass .ensures ∙ ap (λ z. forward (w′ (c .before .before)) z (n′ (c .before .before))) (c .before .ordered-figures .ensures)
+module _ (c : tie.After-forward-pass) where
+  abbrev begun : tie.Start
+  begun = c .before .before .before
 
-backward-is : (c : tie.After-backward-pass) → c .backward-pass .result ≡ substituted (w′ (c .before .before .before)) (z′ (c .before .before .before)) (n′ (c .before .before .before))
-backward-is c = c .backward-pass .ensures ∙ ap (λ y. backward (w′ (c .before .before .before)) y (n′ (c .before .before .before))) (forward-is (c .before))
+  -- z as the forward pass leaves it
+  abbrev reduced : List ℤ
+  reduced = c .forward-pass .last .1 .0
+
+  forward-is : reduced ≡ forward (w′ begun) (z′ begun) (n′ begun)
+  forward-is = c .forward-pass .ensures ∙ ap (λ z. forward (w′ begun) z (n′ begun)) (c .before .before .ordered-figures .ensures)
+
+backward-is : (c : tie.After-backward-pass) → c .backward-pass .result ≡ substituted (w′ (begun (c .before .before))) (z′ (begun (c .before .before))) (n′ (begun (c .before .before)))
+backward-is c =
+    let b = begun (c .before .before) in
+    c .backward-pass .ensures ∙ ap (λ y. backward (w′ b) y (n′ b)) (forward-is (c .before .before))
 
 ordered-figures-requires : tie.Need-ordered-figures-requires
 ordered-figures-requires c κs = search needs
 
 forward-pass-requires : tie.Need-forward-pass-requires
-forward-pass-requires c κs = rw (c .ordered-figures .ensures) (forward-ready _ _ _ _ _ (c .before .pre))
+forward-pass-requires c κs = rw (c .before .ordered-figures .ensures) (forward-ready _ _ _ _ _ (c .before .before .pre))
 
 backward-pass-requires : tie.Need-backward-pass-requires
-backward-pass-requires c κs = rw (forward-is c) (back-ready _ _ _ _ _ (c .before .before .pre))
+backward-pass-requires c κs = rw (forward-is (c .before)) (back-ready _ _ _ _ _ (begun (c .before) .pre))
 
 gained-figures-requires : tie.Need-gained-figures-requires
 gained-figures-requires c κs =
     let d = c .before .before .before in
-    rw (backward-is d) (gain-ready _ _ _ _ _ (d .before .before .before .pre))
+    rw (backward-is d) (gain-ready _ _ _ _ _ (begun (d .before .before) .pre))
 
 returns : tie.Need-returns
 returns c =

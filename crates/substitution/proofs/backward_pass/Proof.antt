@@ -1,6 +1,7 @@
 -- `substitution::backward_pass` meets its contract. The loop's invariant: the corrections left to form, from those formed, give the whole.
 -- Assumes nothing.
 use mathlib.Core.Path.{_≡_, refl, sym, ap, _∙_}
+use mathlib.Core.Bool.{Bool, true}
 use mathlib.Core.List.{List}
 use Prim.Native.Nat.{ℕ, suc, _-_, _<_, _≤_}
 use native.Mathlib.Omega.{arith}
@@ -19,10 +20,14 @@ use Rattle.substitution.proofs.backward_pass.Statement.{statement}
 use Rattle.substitution.proofs.backward_pass.Tie as tie
 
 abbrev Inv-loop : tie.InvT-loop
-Inv-loop rows n z d₀ left₀ d left = (left ≤ n) × Within correction-limit d × (backward-from rows z n left d ≡ backward rows z n)
+Inv-loop rows z n d₀ left₀ d left =
+    (left ≤ n)
+    × Within correction-limit (d .values)
+    × (backward-from rows z n left (d .values) ≡ backward rows z n)
+    × (d .within ≡ true)
 
 abbrev μ-loop : tie.MeasureT-loop
-μ-loop rows n z d₀ left₀ d left = left
+μ-loop rows z n d₀ left₀ d left = left
 
 -- at the loop's head: the rows, the right-hand side, the corrections so far, and the places
 module _ (c : tie.At-loop Inv-loop μ-loop) where
@@ -30,13 +35,13 @@ module _ (c : tie.At-loop Inv-loop μ-loop) where
   rows′ = c .before .args .rows .now
 
   abbrev z′ : List ℤ
-  z′ = c .before .args .t2
+  z′ = c .before .args .z .now
 
   abbrev n′ : ℕ
   n′ = c .before .args .n
 
   abbrev d′ : List ℤ
-  d′ = c .loop .d
+  d′ = c .loop .d .values
 
   abbrev i′ : ℕ
   i′ = c .loop .left - 1
@@ -61,22 +66,22 @@ value-size c = c .magnitude .ensures ∙ ap natAbs (read-value (c .before))
 
 loop-holds : tie.Need-loop-holds Inv-loop μ-loop
 unfolding backward
-loop-holds c = (omega arith, none-within, refl)
+loop-holds c = (omega arith, none-within, refl, refl)
 
 sub-i : tie.Need-sub-i Inv-loop μ-loop
 sub-i c = omega arith
 
-mul-row : tie.Need-mul-row Inv-loop μ-loop
-mul-row c = omega arith
-
-element-copy-out-row : tie.Need-element-copy-out-row Inv-loop μ-loop
-element-copy-out-row c = omega arith
-
 mul-correction-of : tie.Need-mul-correction-of Inv-loop μ-loop
 mul-correction-of c = omega arith
 
-array-copy-out-correction-of : tie.Need-array-copy-out-correction-of Inv-loop μ-loop
-array-copy-out-correction-of c = omega arith
+index-1-correction-of : tie.Need-index-1-correction-of Inv-loop μ-loop
+index-1-correction-of c = omega arith
+
+mul-correction-of-2 : tie.Need-mul-correction-of-2 Inv-loop μ-loop
+mul-correction-of-2 c = omega arith
+
+element-copy-out-correction-of : tie.Need-element-copy-out-correction-of Inv-loop μ-loop
+element-copy-out-correction-of c = omega arith
 
 correction-of-requires : tie.Need-correction-of-requires Inv-loop μ-loop
 correction-of-requires c κs =
@@ -92,11 +97,11 @@ returns c =
     let h = value-size (c .before) in
     sym (left-is e (omega arith) ∙ backward-stop (rows′ e) (z′ e) (n′ e) (i′ e) (d′ e) (omega arith))
 
-mul-d : tie.Need-mul-d Inv-loop μ-loop
-mul-d c = omega arith
+mul-v : tie.Need-mul-v Inv-loop μ-loop
+mul-v c = omega arith
 
-array-set-from-d : tie.Need-array-set-from-d Inv-loop μ-loop
-array-set-from-d c = omega arith
+element-set-from-v : tie.Need-element-set-from-v Inv-loop μ-loop
+element-set-from-v c = omega arith
 
 loop-less : tie.Need-loop-less Inv-loop μ-loop
 loop-less c = omega arith
@@ -105,14 +110,19 @@ loop-again : tie.Need-loop-again Inv-loop μ-loop
 loop-again c =
     let e = c .before .before .before .before .before .before .before .before in
     let h : natAbs (value e) ≤ correction-limit = omega (arith, value-size (c .before)) in
-    rw (read-value (c .before .before))
-    (omega arith, all-set-at (λ (_ : ℕ) (x : ℤ). natAbs x ≤ correction-limit) (pos 0) (d′ e) (i′ e) (value e) h (e .loop .inv .1), sym (backward-more (rows′ e) (z′ e) (n′ e) (i′ e) (d′ e) h) ∙ sym (left-is e (omega arith)))
+    rw (read-value (c .before .before)) (
+      omega arith,
+      all-set-at (λ (_ : ℕ) (x : ℤ). natAbs x ≤ correction-limit) (pos 0) (d′ e) (i′ e) (value e) h (e .loop .inv .1),
+      sym (backward-more (rows′ e) (z′ e) (n′ e) (i′ e) (d′ e) h) ∙ sym (left-is e (omega arith)),
+      e .loop .inv .3,
+    )
 
 returns-2 : tie.Need-returns-2 Inv-loop μ-loop
 returns-2 c =
     let e = c .before in
     let l : e .loop .left ≡ 0 = omega arith in
-    sym (rw l at (sym (e .loop .inv .2)) ∙ backward-done (rows′ e) (z′ e) (n′ e) (d′ e))
+    ap (λ (b : Bool). record { within = b; values = d′ e }) (e .loop .inv .3)
+    ∙ sym (rw l at (sym (e .loop .inv .2)) ∙ backward-done (rows′ e) (z′ e) (n′ e) (d′ e))
 
 pub backward-pass-spec : {M : Type 1} → statement M
 backward-pass-spec =
@@ -122,15 +132,15 @@ backward-pass-spec =
     μ-loop
     loop-holds
     sub-i
-    mul-row
-    element-copy-out-row
     mul-correction-of
-    array-copy-out-correction-of
+    index-1-correction-of
+    mul-correction-of-2
+    element-copy-out-correction-of
     correction-of-requires
     magnitude-requires
     returns
-    mul-d
-    array-set-from-d
+    mul-v
+    element-set-from-v
     loop-less
     loop-again
     returns-2)

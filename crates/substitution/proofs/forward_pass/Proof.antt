@@ -11,32 +11,32 @@ use Rattle.substitution.proofs.forward_pass.Statement.{statement}
 use Rattle.substitution.proofs.forward_pass.Tie as tie
 
 abbrev Inv-loop : tie.InvT-loop
-Inv-loop rows n z₀ i₀ z i = (i ≤ n) × (z ≡ forward rows z₀ i)
+Inv-loop rows z₀ n i₀ z i = (i ≤ n) × (z ≡ forward rows z₀ i)
 
 abbrev μ-loop : tie.MeasureT-loop
-μ-loop rows n z₀ i₀ z i = n - i
+μ-loop rows z₀ n i₀ z i = n - i
 
 loop-holds : tie.Need-loop-holds Inv-loop μ-loop
-loop-holds c = (omega arith, sym (forward-none (c .args .rows .now) (c .args .right)))
+loop-holds c = (omega arith, sym (forward-none (c .args .rows .now) (c .args .z .now)))
 
-mul-row : tie.Need-mul-row Inv-loop μ-loop
-mul-row c = omega arith
+mul-reduced-entry : tie.Need-mul-reduced-entry Inv-loop μ-loop
+mul-reduced-entry c = omega arith
 
-element-copy-out-row : tie.Need-element-copy-out-row Inv-loop μ-loop
-element-copy-out-row c = omega arith
+index-1-reduced-entry : tie.Need-index-1-reduced-entry Inv-loop μ-loop
+index-1-reduced-entry c = omega arith
 
 reduced-entry-requires : tie.Need-reduced-entry-requires Inv-loop μ-loop
 reduced-entry-requires c κs =
-    let d = c .before .before .before .before in
+    let d = c .before .before .before in
     let a = d .before .args in
-    let g = forward-grown (a .rows .now) (a .right) (a .n) (d .before .pre) (d .loop .i) (omega arith) in
+    let g = forward-grown (a .rows .now) (a .z .now) (a .n) (d .before .pre) (d .loop .i) (omega arith) in
     reducible (a .rows .now) (a .n) (d .loop .z) (d .loop .i) (d .before .pre .rows) (d .before .pre .factors) (omega arith) (rw (← d .loop .inv .1) at g)
 
-mul-z : tie.Need-mul-z Inv-loop μ-loop
-mul-z c = omega arith
+mul-t12 : tie.Need-mul-t12 Inv-loop μ-loop
+mul-t12 c = omega arith
 
-array-set-from-z : tie.Need-array-set-from-z Inv-loop μ-loop
-array-set-from-z c = omega arith
+element-set-from-z : tie.Need-element-set-from-z Inv-loop μ-loop
+element-set-from-z c = omega arith
 
 add-i : tie.Need-add-i Inv-loop μ-loop
 add-i c = omega arith
@@ -46,10 +46,10 @@ loop-less c = omega arith
 
 loop-again : tie.Need-loop-again Inv-loop μ-loop
 loop-again c =
-    let d = c .before .before .before .before .before in
+    let d = c .before .before .before .before in
     let a = d .before .args in
     let e = toZ-ofZ {w = w64} (record { sfits = c .reduced-entry .ok }) ∙ c .reduced-entry .ensures in
-    (omega arith, rw (e, forward-more (a .rows .now) (a .right) (d .loop .i), d .loop .inv .1))
+    (omega arith, rw (e, forward-more (a .rows .now) (a .z .now) (d .loop .i), d .loop .inv .1))
 
 returns : tie.Need-returns Inv-loop μ-loop
 returns c =
@@ -64,11 +64,11 @@ forward-pass-spec =
     Inv-loop
     μ-loop
     loop-holds
-    mul-row
-    element-copy-out-row
+    mul-reduced-entry
+    index-1-reduced-entry
     reduced-entry-requires
-    mul-z
-    array-set-from-z
+    mul-t12
+    element-set-from-z
     add-i
     loop-less
     loop-again

@@ -1,6 +1,6 @@
 -- `substitution::reduced_entry` meets its contract. The loop's invariant: s is the entry after the losses by the first j multipliers.
 -- Assumes nothing.
-use mathlib.Core.Path.{_≡_}
+use mathlib.Core.Path.{_≡_, subst⁻¹}
 use mathlib.Core.List.{List}
 use Prim.Native.Nat.{ℕ, suc, _-_, _≤_}
 use native.Mathlib.Numerals.{add-one}
@@ -12,7 +12,6 @@ use mir.Syntax.{w64}
 use mir.Val.{SFits, toZ, ofZ}
 use mir.Facts.{toZ-ofZ}
 use Rattle.integers.specs.Size.{sfits-size}
-use Rattle.rounding.specs.Laws.{defined}
 use Rattle.substitution.specs.Passes.{loss, reduced}
 use Rattle.substitution.specs.Bounds.{Reducible}
 use Rattle.substitution.specs.ForwardLaws.{multiplier-fits, entry-fits, product-small, loss-fits, reduced-fits}
@@ -54,6 +53,10 @@ module _ (c : tie.In-loop Inv-loop μ-loop) where
   read-z : toZ w64 (ofZ w64 (getD z′ j′ (pos 0))) ≡ getD z′ j′ (pos 0)
   read-z = toZ-ofZ (entry-fits row′ z′ i′ ready j′ (omega arith))
 
+  -- the product as the code forms it
+  read-factors : toZ w64 (ofZ w64 (getD row′ j′ (pos 0))) *ℤ toZ w64 (ofZ w64 (getD z′ j′ (pos 0))) ≡ getD row′ j′ (pos 0) *ℤ getD z′ j′ (pos 0)
+  read-factors = rw (read-row, read-z)
+
   read-product : toZ w64 (ofZ w64 (getD row′ j′ (pos 0) *ℤ getD z′ j′ (pos 0))) ≡ getD row′ j′ (pos 0) *ℤ getD z′ j′ (pos 0)
   read-product = toZ-ofZ product
 
@@ -66,31 +69,30 @@ element-copy-out-s c = omega arith
 loop-holds : tie.Need-loop-holds Inv-loop μ-loop
 loop-holds c = (omega arith, search needs)
 
-mul-rounded-quotient : tie.Need-mul-rounded-quotient Inv-loop μ-loop
-mul-rounded-quotient c = omega arith
+mul-rounded-by-scale : tie.Need-mul-rounded-by-scale Inv-loop μ-loop
+mul-rounded-by-scale c = omega arith
 
-element-copy-out-rounded-quotient : tie.Need-element-copy-out-rounded-quotient Inv-loop μ-loop
-element-copy-out-rounded-quotient c = omega arith
+element-copy-out-rounded-by-scale : tie.Need-element-copy-out-rounded-by-scale Inv-loop μ-loop
+element-copy-out-rounded-by-scale c = omega arith
 
-mul-rounded-quotient-2 : tie.Need-mul-rounded-quotient-2 Inv-loop μ-loop
-mul-rounded-quotient-2 c = omega arith
+mul-rounded-by-scale-2 : tie.Need-mul-rounded-by-scale-2 Inv-loop μ-loop
+mul-rounded-by-scale-2 c = omega arith
 
-element-copy-out-rounded-quotient-2 : tie.Need-element-copy-out-rounded-quotient-2 Inv-loop μ-loop
-element-copy-out-rounded-quotient-2 c = omega arith
+element-copy-out-rounded-by-scale-2 : tie.Need-element-copy-out-rounded-by-scale-2 Inv-loop μ-loop
+element-copy-out-rounded-by-scale-2 c = omega arith
 
-mul-rounded-quotient-3 : tie.Need-mul-rounded-quotient-3 Inv-loop μ-loop
-mul-rounded-quotient-3 c = let d = c .before .before in rw (read-row d, read-z d) (product d)
-
-rounded-quotient-requires : tie.Need-rounded-quotient-requires Inv-loop μ-loop
-rounded-quotient-requires c κs =
+mul-rounded-by-scale-3 : tie.Need-mul-rounded-by-scale-3 Inv-loop μ-loop
+mul-rounded-by-scale-3 c =
     let d = c .before .before in
-    rw (read-row d, read-z d, read-product d)
-    (defined _ (pos 16384) (product-small (row′ d) (z′ d) (i′ d) (ready d) (j′ d) (omega arith)) (omega arith))
+    subst⁻¹ (λ (x : ℤ). SFits w64 x) (read-factors d) (product d)
 
-read-loss : (c : tie.After-rounded-quotient Inv-loop μ-loop) → toZ w64 (ofZ w64 (c .rounded-quotient .result)) ≡ loss (row′ (c .before .before .before)) (z′ (c .before .before .before)) (j′ (c .before .before .before))
+rounded-by-scale-requires : tie.Need-rounded-by-scale-requires Inv-loop μ-loop
+rounded-by-scale-requires c κs = search needs
+
+read-loss : (c : tie.After-rounded-by-scale Inv-loop μ-loop) → toZ w64 (ofZ w64 (c .rounded-by-scale .result)) ≡ loss (row′ (c .before .before .before)) (z′ (c .before .before .before)) (j′ (c .before .before .before))
 read-loss c =
     let d = c .before .before .before in
-    let e = rw (read-row d, read-z d, read-product d) at (c .rounded-quotient .ensures) in
+    let e = rw (read-row d, read-z d, read-product d) at (c .rounded-by-scale .ensures) in
     rw e (toZ-ofZ (loss-fits (row′ d) (z′ d) (i′ d) (ready d) (j′ d) (omega arith)))
 
 sub-s : tie.Need-sub-s Inv-loop μ-loop
@@ -124,12 +126,12 @@ reduced-entry-spec =
     mul-s
     element-copy-out-s
     loop-holds
-    mul-rounded-quotient
-    element-copy-out-rounded-quotient
-    mul-rounded-quotient-2
-    element-copy-out-rounded-quotient-2
-    mul-rounded-quotient-3
-    rounded-quotient-requires
+    mul-rounded-by-scale
+    element-copy-out-rounded-by-scale
+    mul-rounded-by-scale-2
+    element-copy-out-rounded-by-scale-2
+    mul-rounded-by-scale-3
+    rounded-by-scale-requires
     sub-s
     add-j
     loop-less

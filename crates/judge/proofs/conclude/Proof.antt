@@ -1,0 +1,66 @@
+-- `judge::conclude` meets its contract: the deciding row is one of the eight places, and whether it has a factor is read off there. Assumes nothing.
+use mathlib.Core.Path.{_≡_}
+use Prim.Native.Nat.{_<_}
+use native.Mathlib.Omega.{arith}
+use lib.ListN.{getD}
+use lib.IntN.{pos}
+use mir.Syntax.{w64}
+use mir.Val.{SFits}
+use mir.Facts.{toZ-ofZ}
+use borrow.Author.Needs.{needs}
+use Rattle.fractions.specs.Greatest.{first-greatest-below}
+use Rattle.judge.specs.Judgement.{deciding-place}
+use Rattle.judge.specs.Laws.{conclusion}
+use Rattle.judge.proofs.conclude.Statement.{statement}
+use Rattle.judge.proofs.conclude.Tie as tie
+
+module _ (c : tie.After-greatest-factor) where
+  abbrev begun : tie.Start
+  begun = c .before .before .before .before
+
+  place-is : c .greatest-factor .result ≡ deciding-place (begun .args .n) (begun .args .t2)
+  unfolding deciding-place
+  place-is = c .greatest-factor .ensures
+
+  place : c .greatest-factor .result < 8
+  place = rw (c .greatest-factor .ensures) (first-greatest-below _ (begun .args .n) 8 (begun .pre) (omega arith))
+
+greatest-factor-requires : tie.Need-greatest-factor-requires
+greatest-factor-requires c κs = search needs
+
+mul-lacks-factor : tie.Need-mul-lacks-factor
+mul-lacks-factor c = omega (arith, place (c .before .before))
+
+array-copy-out-lacks-factor : tie.Need-array-copy-out-lacks-factor
+array-copy-out-lacks-factor c = place (c .before .before)
+
+mul-lacks-factor-2 : tie.Need-mul-lacks-factor-2
+mul-lacks-factor-2 c = omega (arith, place (c .before .before .before))
+
+array-read-lacks-factor : tie.Need-array-read-lacks-factor
+array-read-lacks-factor c = place (c .before .before .before)
+
+lacks-factor-requires : tie.Need-lacks-factor-requires
+lacks-factor-requires c κs = search needs
+
+add-t23 : tie.Need-add-t23
+add-t23 c = omega (arith, place (c .before .before .before .before))
+
+returns : tie.Need-returns
+returns c =
+    let d = c .before .before .before .before in
+    let f : SFits w64 (getD (begun d .args .t2 .residuals) (d .greatest-factor .result) (pos 0)) = record { sfits = c .before .lacks-factor-arg .given } in
+    conclusion (begun d .args .n) (begun d .args .t2) (d .greatest-factor .result) (c .lacks-factor .result) (place-is d) (simp toZ-ofZ at (c .lacks-factor .ensures))
+
+pub conclude-spec : {M : Type 1} → statement M
+conclude-spec =
+    tie.close
+    (tie.spec
+    greatest-factor-requires
+    mul-lacks-factor
+    array-copy-out-lacks-factor
+    mul-lacks-factor-2
+    array-read-lacks-factor
+    lacks-factor-requires
+    add-t23
+    returns)

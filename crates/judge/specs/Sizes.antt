@@ -1,0 +1,35 @@
+-- How large a residual can be, by the sizes of the figures: |R| ≤ D b + n (a y). Assumes nothing.
+use Prim.Native.Nat.{ℕ, _+_, _*_, _≤_}
+use native.Mathlib.Nat.{mul-le-mul, mul-le-mul-left}
+use native.Mathlib.Omega.{arith}
+use lib.ListN.{getD}
+use lib.IntN.{ℤ, pos, natAbs, _*ℤ_}
+use Rattle.integers.specs.Size.{natAbs-*ℤ, natAbs-subℤ}
+use Rattle.integers.specs.Sums.{sum, sum-bound}
+use Rattle.integers.specs.Tables.{all-filled}
+use Rattle.judge.specs.System.{System, Trial, row, residual}
+use Rattle.judge.specs.Judgement.{standing}
+
+-- coefficients of at most a, right-hand sides of at most b, figures of at most y
+module _ (s : System) (t : Trial) (a b y : ℕ)
+    (coefficients : (j : ℕ) → natAbs (getD (s .coefficients) j (pos 0)) ≤ a)
+    (right-sides : (j : ℕ) → natAbs (getD (s .right-sides) j (pos 0)) ≤ b)
+    (figures : (j : ℕ) → natAbs (t .Y j) ≤ y) where
+  term-le : (i j : ℕ) → natAbs (row s i .A j *ℤ t .Y j) ≤ a * y
+  term-le i j = omega (arith, natAbs-*ℤ (row s i .A j) (t .Y j), mul-le-mul (coefficients (i * s .n + j)) (figures j))
+
+  pub residual-size : (i : ℕ) → natAbs (residual (row s i) t) ≤ t .D * b + t .n * (a * y)
+  unfolding residual
+  residual-size i =
+      omega (
+        arith,
+        natAbs-subℤ (pos (t .D) *ℤ row s i .b) (sum (t .n) (λ j. row s i .A j *ℤ t .Y j)),
+        natAbs-*ℤ (pos (t .D)) (row s i .b),
+        mul-le-mul-left (t .D) (right-sides i),
+        sum-bound (t .n) (a * y) (λ j. row s i .A j *ℤ t .Y j) (λ j l. term-le i j),
+      )
+
+  -- the same of every residual that a standing holds
+  pub standing-size : (i : ℕ) → natAbs (getD (standing s t .residuals) i (pos 0)) ≤ t .D * b + t .n * (a * y)
+  standing-size =
+      all-filled (λ (z : ℤ). natAbs z ≤ t .D * b + t .n * (a * y)) (pos 0) (omega arith) 8 (s .n) (λ i. residual (row s i) t) (λ i l. residual-size i)
