@@ -2,7 +2,7 @@
  *
  * Every function here is total: it may be given any lengths and any bytes, and a null pointer where the length is 0. A pointer with a
  * length above 0 points to that many elements, and a buffer shares no memory with what is read. A function allocates nothing, keeps no
- * state, calls nothing outside the library, and may be called from any thread.
+ * state, calls nothing outside the library but memcpy and memset, and may be called from any thread.
  *
  * The result is one number. From 0 on it is a count; below 0 it is a refusal, -1 to -9, with document 01's number after the minus. After a
  * refusal no byte of the buffer has changed; after a count the bytes beyond that many are as they were.

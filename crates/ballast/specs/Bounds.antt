@@ -1,24 +1,21 @@
 -- What the limits of a case give the call: nothing wraps, and every figure fits its place in the record. Assumes nothing.
-use mathlib.Core.Path.{_≡_, refl, sym, ap, _∙_}
+use mathlib.Core.Path.{_≡_, refl, ap}
 use mathlib.Core.Bool.{Bool, true, false, _&&_}
 use mathlib.Core.List.{List, [], _∷_}
 use Prim.Native.Nat.{ℕ, zero, suc, _+_, _*_, _^_, _≤_, _<_}
-use native.Mathlib.Nat.{mul-le-mul, le-trans}
+use native.Mathlib.Nat.{mul-le-mul}
 use native.Mathlib.Omega.{arith}
 use lib.Dec.{lit≤, leb}
-use lib.ListN.{length, getD}
+use lib.ListN.{getD}
 use lib.IntN.{ℤ, pos, natAbs}
-use mir.Syntax.{w32, w64}
-use mir.Val.{SFits}
 use borrow.Author.Tests.{le-leb, leb-true}
-use Rattle.integers.specs.Size.{sfits-size}
 use Rattle.integers.specs.Sums.{total, total-bound}
 use Rattle.figures.specs.Figures.{upTo, within, all}
 use Rattle.casefile.specs.Case.{Case}
 use Rattle.casefile.specs.CaseLaws.{Good}
 use Rattle.casefile.specs.Decode.{padded, stored}
 use Rattle.casefile.specs.StoredLaws.{getD-padded}
-use Rattle.judge.specs.System.{Row, Trial, System, system, row, trial, residual, reach}
+use Rattle.judge.specs.System.{system, row, trial, reach}
 use Rattle.solver.specs.Limits.{Limits}
 use Rattle.solver.specs.Sizes.{limits-enough}
 use Rattle.ballast.specs.Call.{scaleOf, systemOf}

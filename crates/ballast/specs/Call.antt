@@ -1,6 +1,5 @@
 -- The call that takes a case and a result buffer and leaves the record: what it answers and what the buffer then holds, in document 01's order.
 -- Definitions only. Assumes nothing.
-use mathlib.Core.Path.{_≡_}
 use mathlib.Core.Bool.{false, cond}
 use mathlib.Core.List.{List}
 use Prim.Native.Nat.{ℕ, zero, suc, _^_, _≤_}

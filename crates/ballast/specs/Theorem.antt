@@ -5,9 +5,9 @@ use mathlib.Core.Bool.{Bool, true, false, cond}
 use mathlib.Core.List.{List}
 use Prim.Native.Nat.{ℕ, zero, suc, _^_, _≤_, _<_}
 use native.Mathlib.Omega.{arith}
-use lib.Dec.{eqb, leb}
+use lib.Dec.{leb}
 use lib.ListN.{length, getD, take}
-use lib.IntN.{ℤ, pos, natAbs}
+use lib.IntN.{ℤ, pos}
 use mir.Syntax.{w32, w64}
 use mir.Val.{SFits}
 use Rattle.integers.specs.Size.{sfits-size}
@@ -23,19 +23,19 @@ use Rattle.buffer.specs.Laws.{take-onto}
 use Rattle.casefile.specs.Case.{Case}
 use Rattle.casefile.specs.CaseLaws.{Good, good, decode-fine}
 use Rattle.casefile.specs.Decode.{Decoded, accepted, refused, decode, stored}
-use Rattle.casefile.specs.Write.{Written, leaves}
+use Rattle.casefile.specs.Write.{leaves}
 use Rattle.judge.specs.System.{System, Trial, row, trial, residual, reach}
 use Rattle.judge.specs.Judgement.{no-factor, first-unmet, deciding, judgement}
-use Rattle.judge.specs.Finding.{Finding, finding, Justified, Agrees}
+use Rattle.judge.specs.Finding.{Finding, Justified, Agrees}
 use Rattle.judge.specs.Laws.{first-not-suc, at-residuals, at-reaches}
 use Rattle.judge.specs.Theorem.{justified}
 use Rattle.recordfile.specs.Layout.{recordOf, recordLength, Holds}
 use Rattle.recordfile.specs.Laws.{length-record, longest-record}
-use Rattle.recordfile.specs.ReadOff.{recordedRounds, recordedAnswer, recordedFinding}
+use Rattle.recordfile.specs.ReadOff.{recordedAnswer, recordedFinding}
 use Rattle.recordfile.specs.ReadOffLaws.{recorded-met, recorded-unmet, recorded-rounds, recorded-answer, recorded-residual, recorded-reach, recorded-none, recorded-decides}
 use Rattle.solver.specs.declared.Solution.{Solution}
 use Rattle.solver.specs.declared.Status.{Status}
-use Rattle.solver.specs.declared.Status.the-variants.{Answered, ZeroPivot, OutsideRange}
+use Rattle.solver.specs.declared.Status.the-variants.{Answered}
 use Rattle.solver.specs.Claims.{Answer}
 use Rattle.solver.specs.Answers.{answer, rounds}
 use Rattle.solver.specs.Sizes.{residual-le}

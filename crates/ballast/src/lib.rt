@@ -2,7 +2,7 @@
 ghost use mathlib.Core.Path.{_≡_};
 ghost use Prim.Native.Nat.{_≤_};
 ghost use Rattle.casefile.specs.Decode.{decode};
-ghost use Rattle.ballast.specs.Call.{scaleOf, worked, status-of, answer-with, no-answer, answer-of, Workable};
+ghost use Rattle.ballast.specs.Call.{scaleOf, status-of, answer-with, no-answer, answer-of};
 ghost use Rattle.ballast.specs.Demand.{Promise};
 use casefile::Case;
 use judge::Judgement;

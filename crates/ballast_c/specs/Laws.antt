@@ -19,7 +19,6 @@ use Rattle.outcome.specs.declared.Outcome.the-variants.{Count, Refused}
 use Rattle.buffer.specs.Buffer.{onto}
 use Rattle.casefile.specs.declared.Case.{Case}
 use Rattle.casefile.specs.Case.{Case as Figures}
-use Rattle.casefile.specs.Layout.{encode, longestCase}
 use Rattle.casefile.specs.Decode.{Decoded, accepted, refused, decode, stored}
 use Rattle.casefile.specs.CaseLaws.{good, decode-fine, longest}
 use Rattle.casefile.specs.Write.{leaves, write}

@@ -2,7 +2,7 @@
 // Signed numbers are in two's complement. Each function asks only that its bytes lie within the slice.
 ghost use mathlib.Core.Path.{_≡_};
 ghost use Prim.Native.Nat.{_+_, _≤_, _<_};
-ghost use lib.ListN.{length, getD, take, drop};
+ghost use lib.ListN.{length, take, drop};
 ghost use mir.Syntax.{w16, w32, w64};
 ghost use mir.Val.{toZ, ofZ};
 ghost use Rattle.bigendian.specs.Number.{be, bytes};

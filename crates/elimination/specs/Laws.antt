@@ -7,7 +7,7 @@ use native.Mathlib.Omega.{arith}
 use native.Mathlib.Decide.{ℕ-discrete}
 use lib.Dec.{eqb}
 use lib.ListN.{getD, set, replicate, length, length-set}
-use lib.Seq.{getD-set-same, getD-set-other}
+use lib.Seq.{getD-set-same, getD-set-other, set-getD}
 use borrow.Author.Tests.{eq-eqb, ne-eqb}
 use Rattle.elimination.specs.Matrix.{fill}
 use Rattle.elimination.specs.Steps.{exchange}
@@ -139,3 +139,7 @@ exchange-at d l k p i h q =
 
     other : (i ≡ k → ⊥) → (i ≡ p → ⊥) → getD (exchange d l k p) i d ≡ getD l i d
     other f g = getD-set-other (set l k (getD l p d)) p i (getD l k d) d g ∙ getD-set-other l k i (getD l p d) d f
+
+-- a place exchanged with itself
+pub exchange-same : {A : Type 0} (d : A) (l : List A) (k : ℕ) → exchange d l k k ≡ l
+exchange-same d l k = rw (set-getD l k d) (set-getD l k d)

@@ -113,13 +113,13 @@ pub fn eliminate(
     requires { ⌜ n ≤ 8 ⌝ }
     ensures { λ r. ⌜ Eliminates n (now (coefficients .entry)) r (now (rows .exit)) (now (order .exit)) ⌝ }
 {
-    let mut w = [[0i64; 8]; 8];
-    fill_rows(n, coefficients, &mut w);
-    let mut places: [usize; 8] = [0, 1, 2, 3, 4, 5, 6, 7];
+    *rows = [[0i64; 8]; 8];
+    fill_rows(n, coefficients, rows);
+    *order = [0, 1, 2, 3, 4, 5, 6, 7];
     let mut k: usize = 0;
     'steps: while k < n {
         let mut pivot = k;
-        let mut largest = magnitude(w[k][k]);
+        let mut largest = magnitude(rows[k][k]);
         let mut i = k + 1;
         'rows: loop {
             if i == n {
@@ -128,19 +128,20 @@ pub fn eliminate(
                 }
                 break 'rows;
             }
-            let size = magnitude(w[i][k]);
+            let size = magnitude(rows[i][k]);
             if largest < size {
                 pivot = i;
                 largest = size;
             }
             i += 1;
         }
-        w = step(w, k, pivot, n);
-        exchange_places(&mut places, k, pivot);
+        // the last step has no row below it and its pivot is its own row, so it changes nothing
+        if k + 1 < n {
+            *rows = step(*rows, k, pivot, n);
+            exchange_places(order, k, pivot);
+        }
         k += 1;
     }
-    *rows = w;
-    *order = places;
     if k < n {
         Elimination::ZeroPivot(k)
     } else {

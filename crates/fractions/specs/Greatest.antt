@@ -3,19 +3,45 @@
 use mathlib.Core.Path.{_≡_, refl, ap}
 use mathlib.Core.Logic.{_⊎_, inl, inr}
 use mathlib.Core.Bool.{Bool, true, false, cond}
-use Prim.Native.Nat.{ℕ, zero, suc, _+_, _<_, _≤_}
-use native.Mathlib.Decide.{ℕ-discrete}
+use Prim.Native.Nat.{ℕ, zero, suc, _+_, _*_, _<_, _≤_}
+use native.Mathlib.Nat.{mul-le-mul, mul-le-mul-left, mul-le-mul-right}
+use native.Mathlib.Decide.{ℕ-discrete, decLt}
 use native.Mathlib.Numerals.{add-one}
 use native.Mathlib.Omega.{arith}
 use Rattle.fractions.specs.declared.Order.{Order}
 use Rattle.fractions.specs.declared.Order.the-variants.{Less, Equal, Greater}
-use Rattle.fractions.specs.Fraction.{Fraction, _≼_, _≺_, order}
-use Rattle.fractions.specs.Laws.{order-equal, order-less, order-greater, greater, ≼-refl, ≼-total, ≼-trans, ≺-≼-trans, ≼-≺-trans}
+use Rattle.fractions.specs.Fraction.{_over_, Fraction, base, _≼_, _≺_, order}
+use Rattle.fractions.specs.Laws.{numerator-base, proper-base, order-equal, order-less, order-greater, greater, ≼-refl, ≼-total, ≼-trans, ≼-≺-trans}
 
 abbrev pub is-greater : Order → Bool
 is-greater Less = false
 is-greater Equal = false
 is-greater Greater = true
+
+-- ---- without a division: by the numerators and the denominators alone
+
+at-most : (f g : Fraction) → f ≼ g → is-greater (order f g) ≡ false
+at-most f g h = go (decLt (f .num * base g) (g .num * base f))
+  where
+    go : Dec (f ≺ g) → is-greater (order f g) ≡ false
+    go (yes l) = ap is-greater (order-less f g l)
+    go (no l) = ap is-greater (order-equal f g (omega arith))
+
+module _ (a b c d : ℕ) where
+  -- no more over no less is not greater
+  pub smaller : a ≤ c → d ≤ b → is-greater (order (a over b) (c over d)) ≡ false
+  smaller h k = at-most (a over b) (c over d) (go a h)
+    where
+      go : (m : ℕ) → m ≤ c → (m over b) ≼ (c over d)
+      go zero l = omega arith
+      go (suc m) l = rw (numerator-base c d (omega arith)) (mul-le-mul l k)
+
+  -- more over no more, which is not 0, is greater
+  pub larger : c < a → b ≤ d → 0 < b → is-greater (order (a over b) (c over d)) ≡ true
+  larger h k l =
+      ap is-greater
+      (order-greater (a over b) (c over d)
+      (rw (proper-base a b l, proper-base c d (omega arith)) (omega (arith, mul-le-mul-left c k, mul-le-mul-right d h))))
 
 -- its place, from 0: a later fraction takes it over only where it is greater
 unfoldable pub first-greatest : (ℕ → Fraction) → ℕ → ℕ

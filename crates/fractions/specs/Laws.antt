@@ -6,9 +6,8 @@ use Prim.Native.Nat.{ℕ, zero, suc, _+_, _*_, _/_, _%_, _<_, _≤_, compare, co
 use native.Mathlib.Nat.{zero-add, suc-add, le-of-suc-le-suc, div-add-mod', mod-lt, mul-le-mul-right, mul-le-mul-left, le-of-mul-le-mul-left, mul-pos}
 use native.Mathlib.Decide.{decLt, decLe}
 use native.Mathlib.Omega.{arith}
-use Rattle.fractions.specs.declared.Order.{Order}
 use Rattle.fractions.specs.declared.Order.the-variants.{Less, Equal, Greater}
-use Rattle.fractions.specs.Fraction.{Fraction, _over_, below, base, _≼_, _≺_, named, ordered, order}
+use Rattle.fractions.specs.Fraction.{_over_, Fraction, below, base, _≼_, _≺_, named, ordered, order}
 
 -- ---- the order of two naturals
 

@@ -2,6 +2,7 @@
 ghost use mathlib.Core.Path.{_≡_};
 ghost use mathlib.Core.Logic.{_⊎_};
 ghost use Rattle.fractions.specs.Fraction.{_over_, order};
+ghost use Rattle.fractions.specs.Greatest.{is-greater};
 
 pub enum Order {
     Less,
@@ -49,4 +50,25 @@ pub fn compare(a: u64, b: u64, c: u64, d: u64) -> Order
         return Order::Greater;
     }
     compare(d, c % d, b, a % b)
+}
+
+// Whether a / b is greater than c / d. Where neither numerator nor denominator speaks against it, no division is needed.
+pub fn exceeds(a: u64, b: u64, c: u64, d: u64) -> bool
+    ensures { λ r. ⌜ r ≡ is-greater (order (a over b) (c over d)) ⌝ }
+{
+    if a <= c {
+        if d <= b {
+            return false;
+        }
+    } else if b <= d {
+        if 0 < b {
+            return true;
+        }
+    }
+    let order = compare(a, b, c, d);
+    match order {
+        Order::Less => false,
+        Order::Equal => false,
+        Order::Greater => true,
+    }
 }

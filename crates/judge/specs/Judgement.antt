@@ -1,16 +1,16 @@
 -- The judgement of a trial: document 01's "Judgement", row by row in the system's own order. Definitions only. Assumes nothing.
-use mathlib.Core.Bool.{Bool, true, false, cond, not, _&&_}
+use mathlib.Core.Bool.{Bool, cond, not, _&&_}
 use mathlib.Core.List.{List}
 use Prim.Native.Nat.{ℕ, zero, suc}
 use lib.Dec.{leb, eqb}
 use lib.ListN.{getD}
 use lib.IntN.{ℤ, pos, natAbs}
 use Rattle.integers.specs.Tables.{filled}
-use Rattle.fractions.specs.Fraction.{Fraction, _over_}
+use Rattle.fractions.specs.Fraction.{_over_, Fraction}
 use Rattle.fractions.specs.Greatest.{first-greatest}
 use Rattle.judge.specs.declared.Standing.{Standing}
 use Rattle.judge.specs.declared.Judgement.{Judgement}
-use Rattle.judge.specs.System.{Row, Trial, System, residual, reach, row, trial}
+use Rattle.judge.specs.System.{Trial, System, residual, reach, row, trial}
 
 -- "A row is met exactly if |R| is at most T."
 abbrev pub within : ℤ → ℕ → Bool

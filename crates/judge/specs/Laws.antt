@@ -8,11 +8,11 @@ use native.Mathlib.Omega.{arith}
 use lib.Dec.{eqb}
 use lib.ListN.{getD}
 use lib.IntN.{ℤ, pos}
-use mathlib.Core.List.{List}
+use mathlib.Core.List.{List, []}
 use Rattle.integers.specs.Tables.{getD-filled}
 use Rattle.fractions.specs.Greatest.{first-greatest-cong}
 use Rattle.judge.specs.declared.Standing.{Standing}
-use Rattle.judge.specs.System.{System, Trial, row, residual, reach}
+use Rattle.judge.specs.System.{System, Trial, system, row, residual, reach}
 use Rattle.judge.specs.Judgement.{within, factor, no-factor, or-else, first-not, first-unmet, deciding, residuals, reaches, judgement, standing, deciding-place, concluded}
 
 module _ (p : ℕ → Bool) where
@@ -104,6 +104,13 @@ module _ (s : System) (t : Trial) (h : s .n ≤ 8) where
   pub judgement-concluded : concluded (s .n) (standing s t) ≡ judgement s t
   unfolding concluded judgement
   judgement-concluded = rw deciding-is
+
+-- the standing, from residuals and reaches that were formed each from its own part of the system
+pub measured-by-parts : (n : ℕ) (A : List ℤ) (E : List ℕ) (b : List ℤ) (f : List ℕ) (t : Trial) → n ≤ 8 → (u : ℕ) (R : List ℤ) (T : List ℕ)
+    → R ≡ residuals (system n A [] b []) t → T ≡ reaches (system n [] E [] f) t → u ≡ first-not (λ i. within (getD R i (pos 0)) (getD T i 0)) n
+    → record { unmet = u; residuals = R; reaches = T } ≡ standing (system n A E b f) t
+unfolding residual reach
+measured-by-parts n A E b f t h u R T eR eT eu = measured (system n A E b f) t h u R T eR eT eu
 
 -- what is concluded, from the place that decides
 pub conclusion : (n : ℕ) (p : Standing) (at : ℕ) (none : Bool) → at ≡ deciding-place n p

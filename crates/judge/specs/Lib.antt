@@ -7,3 +7,4 @@ pub mod Sizes
 pub mod OettliPrager
 pub mod Finding
 pub mod Theorem
+pub mod Places

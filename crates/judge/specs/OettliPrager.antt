@@ -1,6 +1,6 @@
 -- The theorem of Oettli and Prager in whole numbers, for one row: there are changes under the factor u / v that make the trial exact exactly if
 -- v |R| ≤ u T. In the one direction the changes are those of equation 7.9. Assumes nothing.
-use mathlib.Core.Path.{_≡_, refl, sym, ap, ap₂, _∙_}
+use mathlib.Core.Path.{_≡_, refl, sym, ap, _∙_}
 use mathlib.Core.Logic.{_↔_}
 use mathlib.Core.List.{[], _∷_}
 use Prim.Native.Nat.{ℕ, zero, suc, _+_, _*_, _≤_, _<_}

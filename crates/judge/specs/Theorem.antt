@@ -1,21 +1,20 @@
 -- Every finding that agrees with the judgement is justified, for a trial brought and a trial worked out alike. Assumes nothing.
-use mathlib.Core.Path.{_≡_, refl, sym, ap, ap₂, subst, _∙_}
+use mathlib.Core.Path.{_≡_, refl, sym, ap, ap₂, _∙_}
 use mathlib.Core.Bool.{Bool, true, false, not, _&&_}
 use Prim.Native.Nat.{ℕ, zero, suc, _*_, _-_, _≤_, _<_}
 use native.Mathlib.Nat.{mul-le-mul-right}
 use native.Mathlib.Omega.{arith}
-use borrow.Author.Tests.{leb-true, leb-false, eqb-true, eqb-false, ne-eqb, eq-eqb}
+use borrow.Author.Tests.{leb-true, leb-false, eqb-true, eqb-false, ne-eqb}
 use lib.Dec.{eqb, leb}
-use lib.ListN.{getD}
 use lib.IntN.{ℤ, pos, natAbs}
-use Rattle.fractions.specs.Fraction.{Fraction, _over_, below, base, _≼_}
+use Rattle.fractions.specs.Fraction.{below}
 use Rattle.fractions.specs.Greatest.{first-greatest, First, first-greatest-is}
 use Rattle.judge.specs.System.{System, Trial, row, residual, reach}
-use Rattle.judge.specs.Changes.{Solve, Keep, Possible, PossibleUnder, yielded}
+use Rattle.judge.specs.Changes.{Possible, yielded}
 use Rattle.judge.specs.Judgement.{within, factor, no-factor, first-unmet, deciding, judgement}
-use Rattle.judge.specs.Laws.{Holds, Fails, first-not-zero, first-not-suc, at-residuals, at-reaches}
+use Rattle.judge.specs.Laws.{Fails, first-not-zero, first-not-suc, at-residuals, at-reaches}
 use Rattle.judge.specs.OettliPrager.{oettli-prager, within-tolerances, yielded-keep}
-use Rattle.judge.specs.Finding.{Finding, finding, factor-num, factor-den, AllPossible, AllUnder, FirstImpossible, Least, Yields, Justified, Agrees}
+use Rattle.judge.specs.Finding.{Finding, finding, factor-num, AllPossible, AllUnder, FirstImpossible, Least, Yields, Justified, Agrees}
 
 -- ---- two fractions: v a ≤ u b, from and to the order, where 0 / 0 reads as 0 / 1
 

@@ -1,6 +1,7 @@
 -- The zero trial leaves D b of each row, and its reach is D f, whatever the coefficients and their tolerances are. Assumes nothing.
+use mathlib.Core.List.{List}
 use mathlib.Core.Path.{_≡_, refl, sym, ap, fun-ext, _∙_}
-use Prim.Native.Nat.{ℕ, _*_}
+use Prim.Native.Nat.{ℕ, _*_, _≤_}
 use native.Mathlib.Omega.{arith}
 use lib.ListN.{getD}
 use lib.IntN.{ℤ, pos, natAbs, _-ℤ_, _*ℤ_}
@@ -9,7 +10,8 @@ use Rattle.integers.specs.Size.{natAbs-*ℤ, natAbs-zero}
 use Rattle.integers.specs.Sums.{sum, total, sum-bound, total-bound}
 use Rattle.integers.specs.Tables.{filled, all-table}
 use Rattle.judge.specs.System.{Row, System, row, residual, reach, zero-trial}
-use Rattle.judge.specs.Judgement.{residuals, reaches}
+use Rattle.judge.specs.Judgement.{within, first-not, residuals, reaches, standing}
+use Rattle.judge.specs.Laws.{measured}
 
 module _ (n D : ℕ) where
   figure : (j : ℕ) → zero-trial n D .Y j ≡ pos 0
@@ -42,9 +44,21 @@ module _ (n D : ℕ) where
   unfolding reach
   reach-zero r = omega (arith, total-zero r)
 
--- in eight places
-pub zero-residuals : (s : System) (D : ℕ) → filled 8 (s .n) (pos 0) (λ i. pos D *ℤ getD (s .right-sides) i (pos 0)) ≡ residuals s (zero-trial (s .n) D)
+-- in eight places: D b and D f of each row
+abbrev pub scaled-sides : ℕ → ℕ → List ℤ → List ℤ
+scaled-sides n D b = filled 8 n (pos 0) (λ i. pos D *ℤ getD b i (pos 0))
+
+abbrev pub scaled-tolerances : ℕ → ℕ → List ℕ → List ℕ
+scaled-tolerances n D f = filled 8 n 0 (λ i. D * getD f i 0)
+
+pub zero-residuals : (s : System) (D : ℕ) → scaled-sides (s .n) D (s .right-sides) ≡ residuals s (zero-trial (s .n) D)
 zero-residuals s D = ap (λ (f : ℕ → ℤ). filled 8 (s .n) (pos 0) f) (fun-ext (λ i. sym (residual-zero (s .n) D (row s i))))
 
-pub zero-reaches : (s : System) (D : ℕ) → filled 8 (s .n) 0 (λ i. D * getD (s .right-tolerances) i 0) ≡ reaches s (zero-trial (s .n) D)
+pub zero-reaches : (s : System) (D : ℕ) → scaled-tolerances (s .n) D (s .right-tolerances) ≡ reaches s (zero-trial (s .n) D)
 zero-reaches s D = ap (λ (f : ℕ → ℕ). filled 8 (s .n) 0 f) (fun-ext (λ i. sym (reach-zero (s .n) D (row s i))))
+
+-- what the zero trial leaves, from these
+pub zero-measured : (s : System) (D u : ℕ) (R : List ℤ) (T : List ℕ) → s .n ≤ 8 → R ≡ scaled-sides (s .n) D (s .right-sides)
+    → T ≡ scaled-tolerances (s .n) D (s .right-tolerances) → u ≡ first-not (λ i. within (getD R i (pos 0)) (getD T i 0)) (s .n)
+    → record { unmet = u; residuals = R; reaches = T } ≡ standing s (zero-trial (s .n) D)
+zero-measured s D u R T h eR eT eu = measured s (zero-trial (s .n) D) h u R T (eR ∙ zero-residuals s D) (eT ∙ zero-reaches s D) eu

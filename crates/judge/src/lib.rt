@@ -1,15 +1,16 @@
 // The judgement of a trial answer, exactly, by the theorem of Oettli and Prager.
-use fractions::Order;
 use integers::magnitude;
 ghost use mathlib.Core.Path.{_≡_};
-ghost use mathlib.Core.List.{List, []};
-ghost use Prim.Native.Nat.{ℕ, _+_, _*_, _^_, _≤_, _<_};
+ghost use mathlib.Core.List.{[]};
+ghost use Prim.Native.Nat.{_+_, _*_, _^_, _≤_, _<_};
 ghost use lib.ListN.{getD};
 ghost use lib.IntN.{ℤ, pos, natAbs, _-ℤ_, _*ℤ_};
 ghost use Rattle.integers.specs.Sums.{sum, total};
 ghost use Rattle.fractions.specs.Fraction.{order};
 ghost use Rattle.fractions.specs.Greatest.{is-greater, first-greatest};
-ghost use Rattle.judge.specs.System.{system, trial as trialOf, zero-trial};
+ghost use Rattle.judge.specs.System.{system, trial as trialOf};
+ghost use Rattle.judge.specs.Places.{Cleared};
+ghost use Rattle.judge.specs.ZeroTrial.{scaled-sides, scaled-tolerances};
 ghost use Rattle.judge.specs.Judgement.{within, factor, no-factor, first-not, residuals as residualsOf, reaches as reachesOf, judgement, standing, concluded};
 
 // D b of one row.
@@ -77,48 +78,42 @@ fn row_reach<'a>(
     scaled_tolerance(scale, right_tolerance) + t
 }
 
-// The residual of every row; 0 past the last.
-fn all_residuals<'a>(
+// The residual of every row, in place; 0 past the last.
+pub fn fill_residuals<'a>(
     n: usize,
     scale: u16,
     coefficients: &'a [i16; 64],
     right_sides: &'a [i32; 8],
     trial: &'a [i32; 8],
-) -> [i64; 8]
-    requires { ⌜ n ≤ 8 ⌝ }
-    ensures { λ r. ⌜ r ≡ residualsOf (system n (now (coefficients .entry)) [] (now («right_sides» .entry)) []) (trialOf n scale (now (trial .entry))) ⌝ }
+    residuals: &mut [i64; 8],
+)
+    requires { ⌜ (n ≤ 8) × Cleared n (pos 0) (now residuals) ⌝ }
+    ensures { λ r. ⌜ now (residuals .exit) ≡ residualsOf (system n (now (coefficients .entry)) [] (now («right_sides» .entry)) []) (trialOf n scale (now (trial .entry))) ⌝ }
 {
-    let mut r = [0i64; 8];
-    let mut i = 0;
-    while i < n {
-        r[i] = row_residual(n, i * n, scale, coefficients, right_sides[i], trial);
-        i += 1;
+    for i in 0..n {
+        residuals[i] = row_residual(n, i * n, scale, coefficients, right_sides[i], trial);
     }
-    r
 }
 
-// The reach of every row; 0 past the last.
-fn all_reaches<'a>(
+// The reach of every row, in place; 0 past the last.
+pub fn fill_reaches<'a>(
     n: usize,
     scale: u16,
     tolerances: &'a [u16; 64],
     right_tolerances: &'a [u32; 8],
     trial: &'a [i32; 8],
-) -> [u64; 8]
-    requires { ⌜ n ≤ 8 ⌝ }
-    ensures { λ r. ⌜ r ≡ reachesOf (system n [] (now (tolerances .entry)) [] (now («right_tolerances» .entry))) (trialOf n scale (now (trial .entry))) ⌝ }
+    reaches: &mut [u64; 8],
+)
+    requires { ⌜ (n ≤ 8) × Cleared n 0 (now reaches) ⌝ }
+    ensures { λ r. ⌜ now (reaches .exit) ≡ reachesOf (system n [] (now (tolerances .entry)) [] (now («right_tolerances» .entry))) (trialOf n scale (now (trial .entry))) ⌝ }
 {
-    let mut r = [0u64; 8];
-    let mut i = 0;
-    while i < n {
-        r[i] = row_reach(n, i * n, scale, tolerances, right_tolerances[i], trial);
-        i += 1;
+    for i in 0..n {
+        reaches[i] = row_reach(n, i * n, scale, tolerances, right_tolerances[i], trial);
     }
-    r
 }
 
 // The first unmet row, counted from 1, or 0.
-fn first_beyond<'a>(n: usize, residuals: &'a [i64; 8], reaches: &'a [u64; 8]) -> usize
+pub fn first_beyond<'a>(n: usize, residuals: &'a [i64; 8], reaches: &'a [u64; 8]) -> usize
     requires { ⌜ n ≤ 8 ⌝ }
     ensures { λ r. ⌜ r ≡ first-not (λ i. within (getD (now (residuals .entry)) i (pos 0)) (getD (now (reaches .entry)) i 0)) n ⌝ }
 {
@@ -147,12 +142,7 @@ fn lacks_factor(residual: i64, reach: u64) -> bool
 fn exceeds(r: i64, t: u64, s: i64, u: u64) -> bool
     ensures { λ x. ⌜ x ≡ is-greater (order (factor r t) (factor s u)) ⌝ }
 {
-    let order = fractions::compare(magnitude(r), t, magnitude(s), u);
-    match order {
-        Order::Less => false,
-        Order::Equal => false,
-        Order::Greater => true,
-    }
+    fractions::exceeds(magnitude(r), t, magnitude(s), u)
 }
 
 // The place, from 0, of the first row that has no factor, or of the first with the greatest.
@@ -180,66 +170,42 @@ pub struct Standing {
     pub reaches: [u64; 8],
 }
 
-// What a trial leaves of n rows over n tanks: enough to tell whether it is met.
-pub fn measure<'a>(
-    n: usize,
-    scale: u16,
-    coefficients: &'a [i16; 64],
-    tolerances: &'a [u16; 64],
-    right_sides: &'a [i32; 8],
-    right_tolerances: &'a [u32; 8],
-    trial: &'a [i32; 8],
-) -> Standing
-    requires { ⌜ n ≤ 8 ⌝ }
-    ensures { λ r. ⌜ r ≡ standing (system n (now (coefficients .entry)) (now (tolerances .entry)) (now («right_sides» .entry)) (now («right_tolerances» .entry))) (trialOf n scale (now (trial .entry))) ⌝ }
+// D b of every row, in place: the residuals of the zero trial; 0 past the last.
+pub fn fill_scaled_sides(n: usize, scale: u16, right_sides: &[i32; 8], residuals: &mut [i64; 8])
+    requires { ⌜ (n ≤ 8) × Cleared n (pos 0) (now residuals) ⌝ }
+    ensures { λ r. ⌜ now (residuals .exit) ≡ scaled-sides n scale (now («right_sides» .entry)) ⌝ }
 {
-    let residuals = all_residuals(n, scale, coefficients, right_sides, trial);
-    let reaches = all_reaches(n, scale, tolerances, right_tolerances, trial);
-    let unmet = first_beyond(n, &residuals, &reaches);
-    Standing {
-        unmet,
-        residuals,
-        reaches,
+    for i in 0..n {
+        residuals[i] = scaled_side(scale, right_sides[i]);
     }
 }
 
-// What the zero trial leaves: D b of each row, with the reach D f, whatever the coefficients and their tolerances are.
-pub fn measure_zero_trial<'a>(
+// D f of every row, in place: the reaches of the zero trial; 0 past the last.
+pub fn fill_scaled_tolerances(
     n: usize,
     scale: u16,
-    right_sides: &'a [i32; 8],
-    right_tolerances: &'a [u32; 8],
-) -> Standing
-    requires { ⌜ n ≤ 8 ⌝ }
-    ensures { λ r. ⌜ ((A : List ℤ) (E : List ℕ) → r ≡ standing (system n A E (now («right_sides» .entry)) (now («right_tolerances» .entry))) (zero-trial n scale)) ⌝ }
+    right_tolerances: &[u32; 8],
+    reaches: &mut [u64; 8],
+)
+    requires { ⌜ (n ≤ 8) × Cleared n 0 (now reaches) ⌝ }
+    ensures { λ r. ⌜ now (reaches .exit) ≡ scaled-tolerances n scale (now («right_tolerances» .entry)) ⌝ }
 {
-    let mut residuals = [0i64; 8];
-    let mut reaches = [0u64; 8];
-    let mut i = 0;
-    while i < n {
-        residuals[i] = scaled_side(scale, right_sides[i]);
+    for i in 0..n {
         reaches[i] = scaled_tolerance(scale, right_tolerances[i]);
-        i += 1;
-    }
-    let unmet = first_beyond(n, &residuals, &reaches);
-    Standing {
-        unmet,
-        residuals,
-        reaches,
     }
 }
 
 // What is said of a trial. Rows are counted from 1.
 pub struct Judgement {
-    // whether every row is met, and the first row that is not, or 0
-    pub met: bool,
-    pub unmet: usize,
-    // whether some row has no factor, and the row that decides
-    pub none: bool,
-    pub decides: usize,
     // residual and reach of each row, 0 past the last row
     pub residuals: [i64; 8],
     pub reaches: [u64; 8],
+    // the first row that is not met, or 0, and the row that decides
+    pub unmet: usize,
+    pub decides: usize,
+    // whether every row is met, and whether some row has no factor
+    pub met: bool,
+    pub none: bool,
 }
 
 // The judgement of n rows, from what a trial leaves of them.
@@ -248,12 +214,13 @@ pub fn conclude(n: usize, standing: Standing) -> Judgement
     ensures { λ r. ⌜ r ≡ concluded n standing ⌝ }
 {
     let at = greatest_factor(n, &standing.residuals, &standing.reaches);
+    let none = lacks_factor(standing.residuals[at], standing.reaches[at]);
     let residuals = standing.residuals;
     let reaches = standing.reaches;
     Judgement {
         met: standing.unmet == 0,
         unmet: standing.unmet,
-        none: lacks_factor(residuals[at], reaches[at]),
+        none,
         decides: at + 1,
         residuals,
         reaches,
@@ -273,14 +240,36 @@ pub fn judge<'a>(
     requires { ⌜ n ≤ 8 ⌝ }
     ensures { λ r. ⌜ r ≡ judgement (system n (now (coefficients .entry)) (now (tolerances .entry)) (now («right_sides» .entry)) (now («right_tolerances» .entry))) (trialOf n scale (now (trial .entry))) ⌝ }
 {
-    let standing = measure(
+    let mut judgement = Judgement {
+        met: false,
+        unmet: 0,
+        none: false,
+        decides: 0,
+        residuals: [0i64; 8],
+        reaches: [0u64; 8],
+    };
+    fill_residuals(
         n,
         scale,
         coefficients,
-        tolerances,
         right_sides,
+        trial,
+        &mut judgement.residuals,
+    );
+    fill_reaches(
+        n,
+        scale,
+        tolerances,
         right_tolerances,
         trial,
+        &mut judgement.reaches,
     );
-    conclude(n, standing)
+    let unmet = first_beyond(n, &judgement.residuals, &judgement.reaches);
+    let at = greatest_factor(n, &judgement.residuals, &judgement.reaches);
+    let none = lacks_factor(judgement.residuals[at], judgement.reaches[at]);
+    judgement.met = unmet == 0;
+    judgement.unmet = unmet;
+    judgement.none = none;
+    judgement.decides = at + 1;
+    judgement
 }

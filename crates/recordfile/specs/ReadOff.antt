@@ -1,5 +1,4 @@
 -- What a record says, read off its bytes by position and big-endian value. Definitions only. Assumes nothing.
-use mathlib.Core.Bool.{Bool}
 use mathlib.Core.List.{List}
 use Prim.Native.Nat.{ℕ, _+_, _*_}
 use lib.Dec.{eqb}

@@ -4,7 +4,6 @@ use decimal::write_fixed_point;
 use decimal::write_signed;
 use decimal::write_unsigned;
 use judge::Judgement;
-ghost use mathlib.Core.Path.{_≡_};
 ghost use Prim.Native.Nat.{_+_, _*_, _≤_, _<_};
 ghost use lib.ListN.{length, getD};
 ghost use lib.IntN.{pos};

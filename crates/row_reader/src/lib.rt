@@ -1,5 +1,4 @@
 // The reader of the rows of a case.
-ghost use mathlib.Core.Path.{_≡_};
 ghost use Prim.Native.Nat.{_≤_};
 ghost use lib.ListN.{length, drop};
 ghost use Rattle.row_reader.specs.Read.{RowHere, FiguresRead, RowRoom, RowRead, RowsRoom, RowsRead};

@@ -14,10 +14,9 @@ use Rattle.elimination.specs.Matrix.{Within}
 use Rattle.judge.specs.declared.Standing.{Standing}
 use Rattle.judge.specs.System.{System, trial}
 use Rattle.judge.specs.Judgement.{standing}
-use Rattle.substitution.specs.declared.Corrections.{Corrections}
-use Rattle.solver.specs.declared.Update.{Update}
+use Rattle.substitution.specs.Passes.{Corrections}
 use Rattle.solver.specs.declared.Progress.{Progress}
-use Rattle.solver.specs.Refinement.{figure-limit, gain, gained-from, gained, ordered, substituted, updated, measured, refused, advanced, round, ended, refined}
+use Rattle.solver.specs.Refinement.{figure-limit, gain, Update, update, gained-from, gained, ordered, substituted, updated, measured, refused, advanced, round, ended, refined}
 use Rattle.solver.specs.Limits.{Measured}
 
 -- ---- the update, at a loop's turn: the rest of the work from here is all of it
@@ -30,11 +29,11 @@ module _ (d : List ℤ) (j n : ℕ) (Y : List ℤ) (l : j < n) where
   unfolding gained-from
   gained-more h = rw (left, le-leb (natAbs (gain Y d j)) figure-limit h)
 
-  pub gained-stop : figure-limit < natAbs (gain Y d j) → gained-from d j (n - j) Y ≡ record { within = false; trial = Y }
+  pub gained-stop : figure-limit < natAbs (gain Y d j) → gained-from d j (n - j) Y ≡ update false Y
   unfolding gained-from
   gained-stop h = rw (left, lt-leb (natAbs (gain Y d j)) figure-limit h)
 
-pub gained-done : (d : List ℤ) (j n : ℕ) (Y : List ℤ) → n ≤ j → gained-from d j (n - j) Y ≡ record { within = true; trial = Y }
+pub gained-done : (d : List ℤ) (j n : ℕ) (Y : List ℤ) → n ≤ j → gained-from d j (n - j) Y ≡ update true Y
 unfolding gained-from
 gained-done d j n Y h = let e : n - j ≡ 0 = omega arith in rw e
 
@@ -47,14 +46,14 @@ kept-figures d j (suc m) Y h = go (leb (natAbs (gain Y d j)) figure-limit) refl 
   where
     go : (t : Bool) → leb (natAbs (gain Y d j)) figure-limit ≡ t
         → (Within figure-limit (set Y j (gain Y d j)) → Within figure-limit (gained-from d (j + 1) m (set Y j (gain Y d j)) .trial))
-        → Within figure-limit ((cond t (gained-from d (j + 1) m (set Y j (gain Y d j))) (record { within = false; trial = Y })) .trial)
+        → Within figure-limit ((cond t (gained-from d (j + 1) m (set Y j (gain Y d j))) (update false Y)) .trial)
     go true e r = r (all-set-at (λ (_ : ℕ) (x : ℤ). natAbs x ≤ figure-limit) (pos 0) Y j (gain Y d j) (leb-true (natAbs (gain Y d j)) figure-limit e) h)
     go false e r = h
 
 pub gained-within : (n : ℕ) (Y : List ℤ) (d : Corrections) → Within figure-limit Y → Within figure-limit (gained n Y d .trial)
 gained-within n Y d h = go (d .within)
   where
-    go : (t : Bool) → Within figure-limit ((cond t (gained-from (d .values) 0 n Y) (record { within = false; trial = Y })) .trial)
+    go : (t : Bool) → Within figure-limit ((cond t (gained-from (d .values) 0 n Y) (update false Y)) .trial)
     go true = kept-figures (d .values) 0 n Y h
     go false = h
 

@@ -9,9 +9,7 @@ use lib.IntN.{ℤ, pos, natAbs, _+ℤ_}
 use Rattle.integers.specs.Tables.{table, filled}
 use Rattle.judge.specs.System.{System, Trial, trial}
 use Rattle.judge.specs.Judgement.{residuals, standing}
-use Rattle.substitution.specs.declared.Corrections.{Corrections}
-use Rattle.substitution.specs.Passes.{forward, backward}
-use Rattle.solver.specs.declared.Update.{Update}
+use Rattle.substitution.specs.Passes.{Corrections, forward, backward}
 use Rattle.solver.specs.declared.Progress.{Progress}
 
 -- ---- from the residuals to the corrections
@@ -37,17 +35,25 @@ figure-limit = 10000000
 abbrev pub gain : List ℤ → List ℤ → ℕ → ℤ
 gain Y d j = getD Y j (pos 0) +ℤ getD d j (pos 0)
 
+-- a trial with its corrections, and whether every figure of it is within its limit
+pub record Update : Type 0 where
+  pub within : Bool
+  pub trial : List ℤ
+
+abbrev pub update : Bool → List ℤ → Update
+update b Y = record { within = b; trial = Y }
+
 -- m figures from tank j on: the first that is outside its limit ends the update
 unfoldable pub gained-from : List ℤ → ℕ → ℕ → List ℤ → Update
-gained-from d j zero Y = record { within = true; trial = Y }
+gained-from d j zero Y = update true Y
 gained-from d j (suc m) Y =
     cond (leb (natAbs (gain Y d j)) figure-limit)
     (gained-from d (j + 1) m (set Y j (gain Y d j)))
-    (record { within = false; trial = Y })
+    (update false Y)
 
 -- where a correction is outside its limit, no figure gains anything
 abbrev pub gained : ℕ → List ℤ → Corrections → Update
-gained n Y d = cond (d .within) (gained-from (d .values) 0 n Y) (record { within = false; trial = Y })
+gained n Y d = cond (d .within) (gained-from (d .values) 0 n Y) (update false Y)
 
 -- the next trial, not within its limits where the steps reach refusal 9
 unfoldable pub updated : List (List ℤ) → List ℕ → System → ℕ → List ℤ → Update
@@ -75,8 +81,11 @@ unfoldable pub round : List (List ℤ) → List ℕ → System → ℕ → Progr
 round w o s D p = advanced s D p (updated w o s D (p .trial))
 
 -- "The first that is met ends the work": the first with no unmet row; and so does a refusal
+abbrev pub ended-by : Bool → ℕ → Bool
+ended-by within unmet = not within || eqb unmet 0
+
 abbrev pub ended : Progress → Bool
-ended p = not (p .within) || eqb (p .standing .unmet) 0
+ended p = ended-by (p .within) (p .standing .unmet)
 
 -- at most m rounds more: "after round K the last trial stands"
 unfoldable pub refined : List (List ℤ) → List ℕ → System → ℕ → ℕ → Progress → Progress

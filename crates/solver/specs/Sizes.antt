@@ -13,14 +13,14 @@ use Rattle.judge.specs.System.{System, Trial, residual, row, trial}
 use Rattle.judge.specs.declared.Standing.{Standing}
 use Rattle.judge.specs.Judgement.{residuals, standing}
 use Rattle.judge.specs.Laws.{at-residuals}
+use Rattle.judge.specs.Places.{Cleared, filled-cleared}
 use Rattle.judge.specs.Sizes.{residual-size, standing-size}
 use Rattle.substitution.specs.Passes.{correction-limit, forward, backward}
 use Rattle.substitution.specs.Bounds.{right-limit, Forward, Backward}
 use Rattle.substitution.specs.ForwardLaws.{backward-ready}
 use Rattle.substitution.specs.BackwardLaws.{backward-within}
-use Rattle.solver.specs.declared.Update.{Update}
 use Rattle.solver.specs.declared.Progress.{Progress}
-use Rattle.solver.specs.Refinement.{figure-limit, permuted, ordered, substituted, gain, gained, updated}
+use Rattle.solver.specs.Refinement.{figure-limit, Update, permuted, ordered, substituted, gain, gained, updated}
 use Rattle.solver.specs.Limits.{Limits, Ready, Updatable, Gainable}
 
 -- ---- document 01's limits are enough
@@ -83,6 +83,13 @@ module _ (w : List (List ℤ)) (o : List ℕ) (s : System) (D : ℕ) (p : Progre
         residuals = rw held (residuals-within s D (p .trial) (h .limits) (h .measured .figures));
         figures = h .measured .figures;
       }
+
+  -- residuals and reaches may be written again in their places: those past the last row are 0
+  pub residuals-cleared : Cleared (s .n) (pos 0) (p .standing .residuals)
+  residuals-cleared = rw held (filled-cleared (pos 0) (s .n) _ (h .limits .rows))
+
+  pub reaches-cleared : Cleared (s .n) 0 (p .standing .reaches)
+  reaches-cleared = rw (ap (λ (m : Standing). m .reaches) (h .measured .standing-is)) (filled-cleared 0 (s .n) _ (h .limits .rows))
 
   pub updated-from : (u : Update) → u ≡ gained (s .n) (p .trial) (substituted w (permuted (s .n) o (p .standing .residuals)) (s .n)) → u ≡ updated w o s D (p .trial)
   unfolding updated

@@ -5,8 +5,11 @@ use integers::magnitude;
 use judge::Judgement;
 use judge::Standing;
 use judge::conclude;
-use judge::measure;
-use judge::measure_zero_trial;
+use judge::fill_reaches;
+use judge::fill_residuals;
+use judge::fill_scaled_sides;
+use judge::fill_scaled_tolerances;
+use judge::first_beyond;
 use substitution::backward_pass;
 use substitution::forward_pass;
 ghost use mathlib.Core.Path.{_≡_};
@@ -15,15 +18,10 @@ ghost use Prim.Native.Nat.{ℕ, _≤_};
 ghost use lib.IntN.{ℤ};
 ghost use Rattle.elimination.specs.Claims.{Permutation};
 ghost use Rattle.judge.specs.System.{System, system};
-ghost use Rattle.solver.specs.Refinement.{permuted, substituted, gained-from, gained, round as roundOf, ended as endedOf, refined, start as startOf};
+ghost use Rattle.solver.specs.Refinement.{permuted, substituted, update, gained-from, gained, round as roundOf, ended-by as endedBy, refined, start as startOf};
+ghost use Rattle.substitution.specs.Passes.{none};
 ghost use Rattle.solver.specs.Solution.{kept as keptOf, answered as answeredOf, solution};
 ghost use Rattle.solver.specs.Limits.{Limits, Measured, Gainable, Updatable, Ready, Startable};
-
-// A trial with its corrections, and whether every figure of it is within its limit.
-pub struct Update {
-    pub within: bool,
-    pub trial: [i32; 8],
-}
 
 // A trial after so many rounds with what it leaves of each row, and whether the last round stayed within its limits.
 pub struct Progress {
@@ -33,60 +31,51 @@ pub struct Progress {
     pub standing: Standing,
 }
 
-// The figures of the places in `order`, 0 past the n-th.
-fn ordered_figures<'a>(n: usize, figures: &'a [i64; 8], order: &'a [usize; 8]) -> [i64; 8]
-    requires { ⌜ (n ≤ 8) × Permutation n (now order) ⌝ }
-    ensures { λ r. ⌜ r ≡ permuted n (now (order .entry)) (now (figures .entry)) ⌝ }
+// The figures of the places in `order`, into z; 0 past the n-th.
+fn order_figures<'a>(n: usize, figures: &'a [i64; 8], order: &'a [usize; 8], z: &mut [i64; 8])
+    requires { ⌜ (n ≤ 8) × Permutation n (now order) × (now z ≡ none) ⌝ }
+    ensures { λ r. ⌜ now (z .exit) ≡ permuted n (now (order .entry)) (now (figures .entry)) ⌝ }
 {
-    let mut z = [0i64; 8];
     for i in 0..n {
         let p = order[i];
         z[i] = figures[p];
     }
-    z
 }
 
-// Y gains d, from the first tank on, up to a figure outside its limit.
-fn gained_figures(n: usize, trial: [i32; 8], corrections: &[i64; 8]) -> Update
-    requires { ⌜ Gainable n trial (now corrections) ⌝ }
-    ensures { λ r. ⌜ r ≡ gained-from (now (corrections .entry)) 0 n trial ⌝ }
+// Y gains d, from the first tank on, up to a figure outside its limit, and whether there was none.
+fn gain_figures(n: usize, trial: &mut [i32; 8], corrections: &[i64; 8]) -> bool
+    requires { ⌜ Gainable n (now trial) (now corrections) ⌝ }
+    ensures { λ r. ⌜ update r (now (trial .exit)) ≡ gained-from (now (corrections .entry)) 0 n (now (trial .entry)) ⌝ }
 {
-    let mut next = Update {
-        within: true,
-        trial,
-    };
     for j in 0..n {
-        let v = (next.trial[j] as i64) + corrections[j];
+        let v = (trial[j] as i64) + corrections[j];
         if 10000000 < magnitude(v) {
-            next.within = false;
-            return next;
+            return false;
         }
-        next.trial[j] = v as i32;
+        trial[j] = v as i32;
     }
-    next
+    true
 }
 
-// The next trial, from the residuals of the last.
-fn updated_trial<'a>(
+// The next trial in place of the last, from the residuals of that, and whether every figure of it is within its limit.
+fn update_trial<'a>(
     n: usize,
     rows: &'a [[i64; 8]; 8],
     order: &'a [usize; 8],
     residuals: &'a [i64; 8],
-    trial: [i32; 8],
-) -> Update
-    requires { ⌜ Updatable n (now rows) (now order) (now residuals) trial ⌝ }
-    ensures { λ r. ⌜ r ≡ gained n trial (substituted (now (rows .entry)) (permuted n (now (order .entry)) (now (residuals .entry))) n) ⌝ }
+    trial: &mut [i32; 8],
+) -> bool
+    requires { ⌜ Updatable n (now rows) (now order) (now residuals) (now trial) ⌝ }
+    ensures { λ r. ⌜ update r (now (trial .exit)) ≡ gained n (now (trial .entry)) (substituted (now (rows .entry)) (permuted n (now (order .entry)) (now (residuals .entry))) n) ⌝ }
 {
-    let mut z = ordered_figures(n, residuals, order);
+    let mut z = [0i64; 8];
+    order_figures(n, residuals, order, &mut z);
     forward_pass(rows, &mut z, n);
-    let d = backward_pass(rows, &z, n);
-    if d.within {
-        gained_figures(n, trial, &d.values)
+    let mut d = [0i64; 8];
+    if backward_pass(rows, &z, n, &mut d) {
+        gain_figures(n, trial, &d)
     } else {
-        Update {
-            within: false,
-            trial,
-        }
+        false
     }
 }
 
@@ -100,46 +89,46 @@ fn round<'a>(
     right_tolerances: &'a [u32; 8],
     rows: &'a [[i64; 8]; 8],
     order: &'a [usize; 8],
-    progress: Progress,
+    mut progress: Progress,
 ) -> Progress
     requires { ⌜ Ready (now rows) (now order) (system n (now coefficients) (now tolerances) (now «right_sides») (now «right_tolerances»)) scale progress ⌝ }
     ensures { λ r. ⌜ r ≡ roundOf (now (rows .entry)) (now (order .entry)) (system n (now (coefficients .entry)) (now (tolerances .entry)) (now («right_sides» .entry)) (now («right_tolerances» .entry))) scale progress ⌝ }
 {
-    let next = updated_trial(n, rows, order, &progress.standing.residuals, progress.trial);
-    if next.within {
-        let standing = measure(
+    // after refusal 9 the last trial stands
+    let mut trial = progress.trial;
+    if update_trial(n, rows, order, &progress.standing.residuals, &mut trial) {
+        fill_residuals(
             n,
             scale,
             coefficients,
-            tolerances,
             right_sides,
-            right_tolerances,
-            &next.trial,
+            &trial,
+            &mut progress.standing.residuals,
         );
-        let trial = next.trial;
-        let rounds = progress.rounds + 1;
-        Progress {
-            within: true,
-            rounds,
-            trial,
-            standing,
-        }
+        fill_reaches(
+            n,
+            scale,
+            tolerances,
+            right_tolerances,
+            &trial,
+            &mut progress.standing.reaches,
+        );
+        let unmet = first_beyond(n, &progress.standing.residuals, &progress.standing.reaches);
+        progress.within = true;
+        progress.rounds = progress.rounds + 1;
+        progress.trial = trial;
+        progress.standing.unmet = unmet;
     } else {
-        let mut last = progress;
-        last.within = false;
-        last
+        progress.within = false;
     }
+    progress
 }
 
 // Whether the work ends here: no row is unmet, or refusal 9.
-fn ended(progress: Progress) -> bool
-    ensures { λ r. ⌜ r ≡ endedOf progress ⌝ }
+fn ended(within: bool, unmet: usize) -> bool
+    ensures { λ r. ⌜ r ≡ endedBy within unmet ⌝ }
 {
-    if progress.within {
-        progress.standing.unmet == 0
-    } else {
-        true
-    }
+    if within { unmet == 0 } else { true }
 }
 
 // Rounds until one is met, or refused, or `rounds` of them are done.
@@ -153,12 +142,11 @@ fn refine<'a>(
     rows: &'a [[i64; 8]; 8],
     order: &'a [usize; 8],
     rounds: usize,
-    start: Progress,
+    mut progress: Progress,
 ) -> Progress
-    requires { ⌜ Startable (now rows) (now order) (system n (now coefficients) (now tolerances) (now «right_sides») (now «right_tolerances»)) scale start ⌝ }
-    ensures { λ r. ⌜ r ≡ refined (now (rows .entry)) (now (order .entry)) (system n (now (coefficients .entry)) (now (tolerances .entry)) (now («right_sides» .entry)) (now («right_tolerances» .entry))) scale rounds start ⌝ }
+    requires { ⌜ Startable (now rows) (now order) (system n (now coefficients) (now tolerances) (now «right_sides») (now «right_tolerances»)) scale progress ⌝ }
+    ensures { λ r. ⌜ r ≡ refined (now (rows .entry)) (now (order .entry)) (system n (now (coefficients .entry)) (now (tolerances .entry)) (now («right_sides» .entry)) (now («right_tolerances» .entry))) scale rounds progress ⌝ }
 {
-    let mut progress = start;
     let mut left = rounds;
     while 0 < left {
         progress = round(
@@ -172,7 +160,7 @@ fn refine<'a>(
             order,
             progress,
         );
-        if ended(progress) {
+        if ended(progress.within, progress.standing.unmet) {
             return progress;
         }
         left -= 1;
@@ -205,13 +193,22 @@ fn start<'a>(
     requires { ⌜ n ≤ 8 ⌝ }
     ensures { λ r. ⌜ ((A : List ℤ) (E : List ℕ) → r ≡ startOf (system n A E (now («right_sides» .entry)) (now («right_tolerances» .entry))) scale) ⌝ }
 {
-    let standing = measure_zero_trial(n, scale, right_sides, right_tolerances);
-    Progress {
+    let standing = Standing {
+        unmet: 0,
+        residuals: [0i64; 8],
+        reaches: [0u64; 8],
+    };
+    let mut first = Progress {
         within: true,
         rounds: 0,
         trial: [0i32; 8],
         standing,
-    }
+    };
+    fill_scaled_sides(n, scale, right_sides, &mut first.standing.residuals);
+    fill_scaled_tolerances(n, scale, right_tolerances, &mut first.standing.reaches);
+    let unmet = first_beyond(n, &first.standing.residuals, &first.standing.reaches);
+    first.standing.unmet = unmet;
+    first
 }
 
 // The kept trial of n rows with its judgement, in whatever system it was measured.

@@ -14,9 +14,9 @@ use mir.Syntax.{w64}
 use mir.Val.{SFits}
 use Rattle.integers.specs.Size.{natAbs-*ℤ, natAbs-subℤ, sfits-size}
 use Rattle.integers.specs.Sums.{sum, sum-bound}
-use Rattle.integers.specs.Tables.{table, all-table, all-set-at}
+use Rattle.integers.specs.Tables.{all-table, all-set-at}
 use Rattle.elimination.specs.Matrix.{Within}
-use Rattle.substitution.specs.Passes.{product-above, sum-above, correction-at, correction-limit, backward-from, backward}
+use Rattle.substitution.specs.Passes.{product-above, sum-above, correction-at, correction-limit, none, corrections, backward-from, backward}
 use Rattle.substitution.specs.Bounds.{forward-limit, Backward, Summable, Correctable}
 
 -- the sum with one column more
@@ -69,7 +69,7 @@ correctable w z n i d h l k =
       right = h .right i;
     }
 
-pub none-within : Within correction-limit (table 8 (λ _. pos 0))
+pub none-within : Within correction-limit none
 none-within = all-table (λ (x : ℤ). natAbs x ≤ correction-limit) (pos 0) (omega arith) 8 (λ _. pos 0) (λ i. omega arith)
 
 -- the pass, at a loop's turn: the rest of the work from here is all of it
@@ -78,11 +78,11 @@ module _ (w : List (List ℤ)) (z : List ℤ) (n i : ℕ) (d : List ℤ) where
   unfolding backward-from
   backward-more h = rw (le-leb (natAbs (correction-at w z n i d)) correction-limit h)
 
-  pub backward-stop : correction-limit < natAbs (correction-at w z n i d) → backward-from w z n (suc i) d ≡ record { within = false; values = d }
+  pub backward-stop : correction-limit < natAbs (correction-at w z n i d) → backward-from w z n (suc i) d ≡ corrections false d
   unfolding backward-from
   backward-stop h = rw (lt-leb (natAbs (correction-at w z n i d)) correction-limit h)
 
-pub backward-done : (w : List (List ℤ)) (z : List ℤ) (n : ℕ) (d : List ℤ) → backward-from w z n 0 d ≡ record { within = true; values = d }
+pub backward-done : (w : List (List ℤ)) (z : List ℤ) (n : ℕ) (d : List ℤ) → backward-from w z n 0 d ≡ corrections true d
 unfolding backward-from
 backward-done w z n d = refl
 
@@ -97,10 +97,10 @@ from-within w z n (suc i) d h = go (leb (natAbs (correction-at w z n i d)) corre
 
     go : (t : Bool) → leb (natAbs value) correction-limit ≡ t
         → (Within correction-limit (set d i value) → Within correction-limit (backward-from w z n i (set d i value) .values))
-        → Within correction-limit ((cond t (backward-from w z n i (set d i value)) (record { within = false; values = d })) .values)
+        → Within correction-limit ((cond t (backward-from w z n i (set d i value)) (corrections false d)) .values)
     go true e r = r (all-set-at (λ (_ : ℕ) (x : ℤ). natAbs x ≤ correction-limit) (pos 0) d i value (leb-true (natAbs value) correction-limit e) h)
     go false e r = h
 
 pub backward-within : (w : List (List ℤ)) (z : List ℤ) (n : ℕ) → Within correction-limit (backward w z n .values)
 unfolding backward
-backward-within w z n = from-within w z n n (table 8 (λ _. pos 0)) none-within
+backward-within w z n = from-within w z n n none none-within

@@ -1,6 +1,6 @@
 -- Substitution with eliminated rows: the forward and the backward pass of document 01's "The steps". The multipliers M stand below the diagonal
 -- of W. Rows are counted from 0. Definitions only. Assumes nothing.
-use mathlib.Core.Bool.{true, false, cond}
+use mathlib.Core.Bool.{Bool, true, false, cond}
 use mathlib.Core.List.{List, []}
 use Prim.Native.Nat.{ℕ, zero, suc, _+_, _-_}
 use lib.Dec.{leb}
@@ -9,7 +9,6 @@ use lib.IntN.{ℤ, pos, natAbs, _-ℤ_, _*ℤ_}
 use Rattle.integers.specs.Sums.{sum}
 use Rattle.integers.specs.Tables.{table}
 use Rattle.rounding.specs.Round.{rnd}
-use Rattle.substitution.specs.declared.Corrections.{Corrections}
 
 -- ---- forward: "From the top, z(i) loses rnd(M(i,j) × z(j) / 16,384) for j = 1 to i − 1 in turn."
 
@@ -34,6 +33,18 @@ forward w z (suc i) = reduce-entry w i (forward w z i)
 -- ---- backward: "From the bottom, d(i) = rnd((256 × z(i) − sum over j above i of W(i,j) × d(j)) / W(i,i)), and its limit is checked as soon as
 -- it is formed."
 
+-- the corrections, and whether all of them were formed, each within its limit
+pub record Corrections : Type 0 where
+  pub within : Bool
+  pub values : List ℤ
+
+abbrev pub corrections : Bool → List ℤ → Corrections
+corrections b d = record { within = b; values = d }
+
+-- before any is formed
+abbrev pub none : List ℤ
+none = table 8 (λ _. pos 0)
+
 -- "A correction is outside ±20,000,000"
 abbrev pub correction-limit : ℕ
 correction-limit = 20000000
@@ -55,12 +66,12 @@ correction-at w z n i d = correction (getD w i []) (getD z i (pos 0)) d i n
 
 -- with i corrections left to form: the first that is outside its limit ends the pass
 unfoldable pub backward-from : List (List ℤ) → List ℤ → ℕ → ℕ → List ℤ → Corrections
-backward-from w z n zero d = record { within = true; values = d }
+backward-from w z n zero d = corrections true d
 backward-from w z n (suc i) d =
     cond (leb (natAbs (correction-at w z n i d)) correction-limit)
     (backward-from w z n i (set d i (correction-at w z n i d)))
-    (record { within = false; values = d })
+    (corrections false d)
 
 -- all of them, from the last row to the first; a correction that is not formed stands as 0
 unfoldable pub backward : List (List ℤ) → List ℤ → ℕ → Corrections
-backward w z n = backward-from w z n n (table 8 (λ _. pos 0))
+backward w z n = backward-from w z n n none

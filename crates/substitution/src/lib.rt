@@ -3,16 +3,10 @@ use integers::magnitude;
 use rounding::rounded_by_scale;
 use rounding::rounded_quotient;
 ghost use mathlib.Core.Path.{_≡_};
-ghost use Rattle.substitution.specs.Passes.{reduced, forward, sum-above, correction, backward};
+ghost use Rattle.substitution.specs.Passes.{reduced, forward, sum-above, correction, none, corrections, backward};
 ghost use Rattle.substitution.specs.Bounds.{Forward, Backward, Reducible, Summable, Correctable};
 ghost use lib.ListN.{getD};
 ghost use lib.IntN.{pos};
-
-// The corrections, and whether all of them were formed, each within its limit.
-pub struct Corrections {
-    pub within: bool,
-    pub values: [i64; 8],
-}
 
 // Entry i of the right-hand side, less what the row's multipliers take of the entries above it.
 fn reduced_entry(row: &[i64; 8], z: &[i64; 8], i: usize) -> i64
@@ -57,25 +51,20 @@ pub fn forward_pass(rows: &[[i64; 8]; 8], z: &mut [i64; 8], n: usize)
     }
 }
 
-// The corrections, from the last row to the first. The first outside its limit ends the pass; those not formed stand as 0.
-pub fn backward_pass(rows: &[[i64; 8]; 8], z: &[i64; 8], n: usize) -> Corrections
-    requires { ⌜ Backward (now rows) (now z) n ⌝ }
-    ensures { λ r. ⌜ r ≡ backward (now (rows .entry)) (now (z .entry)) n ⌝ }
+// The corrections, from the last row to the first, and whether all of them were formed, each within its limit. The first outside it ends the pass; those not formed stay 0.
+pub fn backward_pass(rows: &[[i64; 8]; 8], z: &[i64; 8], n: usize, d: &mut [i64; 8]) -> bool
+    requires { ⌜ Backward (now rows) (now z) n × (now d ≡ none) ⌝ }
+    ensures { λ r. ⌜ corrections r (now (d .exit)) ≡ backward (now (rows .entry)) (now (z .entry)) n ⌝ }
 {
-    let mut d = Corrections {
-        within: true,
-        values: [0i64; 8],
-    };
     let mut left = n;
     while 0 < left {
         let i = left - 1;
-        let v = correction_of(&rows[i], z[i], &d.values, i, n);
+        let v = correction_of(&rows[i], z[i], d, i, n);
         if 20000000 < magnitude(v) {
-            d.within = false;
-            return d;
+            return false;
         }
-        d.values[i] = v;
+        d[i] = v;
         left = i;
     }
-    d
+    true
 }

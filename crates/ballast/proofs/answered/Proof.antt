@@ -1,5 +1,4 @@
 -- `ballast::answered` meets its contract: the status by its numbers, the rest as it is. Assumes nothing.
-use mathlib.Core.Path.{_≡_}
 use borrow.Author.Needs.{needs}
 use Rattle.ballast.proofs.answered.Statement.{statement}
 use Rattle.ballast.proofs.answered.Tie as tie

@@ -1,6 +1,6 @@
 -- `ballast::judge_case` meets its contract: each way through it is one of the definition's cases, and the definition keeps the promise.
 -- Assumes nothing.
-use mathlib.Core.Path.{_≡_, sym, ap, _∙_}
+use mathlib.Core.Path.{sym, ap, _∙_}
 use denote.Ref.{now}
 use Rattle.ballast.specs.CallLaws.{call-short, call-refused, call-recorded}
 use Rattle.ballast.specs.Theorem.{promised, answer-recordable}

@@ -1,6 +1,5 @@
 -- `ballast::scale` meets its contract, by cases. Assumes nothing.
-use mathlib.Core.Path.{_≡_, refl, sym, ap}
-use Prim.Native.Nat.{ℕ, _^_}
+use mathlib.Core.Path.{_≡_, sym, ap}
 use native.Mathlib.Omega.{arith}
 use Rattle.ballast.specs.Call.{scaleOf}
 use Rattle.ballast.proofs.scale.Statement.{statement}

@@ -1,10 +1,10 @@
 -- `ballast_c::ballast_check_case` meets its contract, by what the reader says. Assumes nothing.
-use mathlib.Core.Path.{_≡_, sym, ap, _∙_}
+use mathlib.Core.Path.{sym, ap, _∙_}
 use denote.Ref.{now}
 use mir.Facts.{toZ-ofZ}
 use borrow.Author.Needs.{needs}
 use Rattle.casefile.specs.Decode.{decode}
-use Rattle.ballast.specs.CallLaws.{reading-refused, reading-accepted, Whole}
+use Rattle.ballast.specs.CallLaws.{reading-refused, reading-accepted}
 use Rattle.ballast_c.specs.Result.{number}
 use Rattle.ballast_c.specs.Laws.{small-refused, small-count, tanks-refused, tanks-accepted, few-tanks}
 use Rattle.ballast_c.proofs.ballast_check_case.Statement.{statement}

@@ -11,7 +11,9 @@ use mir.Facts.{toZ-ofZ}
 use Rattle.elimination.specs.Matrix.{at}
 use Rattle.elimination.specs.Steps.{pivot-from, pivot-row, exchange, eliminated-below, Run, largest, advanced, after-steps, eliminated}
 use Rattle.elimination.specs.Conditions.{Pivoted}
-use Rattle.elimination.specs.Pivot.{pivot-up, pivot-stay, pivot-done}
+use Rattle.elimination.specs.Laws.{exchange-same}
+use Rattle.elimination.specs.Pivot.{pivot-best, pivot-up, pivot-stay, pivot-done}
+use Rattle.elimination.specs.Bounds.{last-step}
 use Rattle.elimination.specs.Runs.{after-none, after-more, advanced-step, stays}
 use Rattle.elimination.specs.Factors.{kept, kept-pivoted}
 use Rattle.elimination.specs.Outcome.{outcome, Eliminates}
@@ -44,6 +46,13 @@ made-more {n} {k} {p} {a} {w} {w₁} {places} m h l e f g =
       is = after-more n a k ∙ ap (advanced n) (m .is) ∙ advanced-step n (state w places k) l ∙ rw (f, g, e);
     }
 
+-- the last step, which changes nothing: its pivot is its own row, and no row is below
+made-last : {n k : ℕ} {a : List ℤ} {w : List (List ℤ)} {places : List ℕ}
+    → Made n a w places k → k < n → n ≤ k + 1 → 0 < largest n (state w places k) → Made n a w places (k + 1)
+made-last {n} {k} {a} {w} {places} m h o l =
+    let b = pivot-best w k n h in
+    made-more {p = k} m h l (omega (arith, b .low, b .high)) (sym (last-step _ k n o ∙ exchange-same [] w k)) (sym (exchange-same 0 places k))
+
 -- what is left when the steps are over
 leaves : {n : ℕ} {a : List ℤ} {r : Run} {answer : Elimination} → eliminated n a ≡ r → answer ≡ outcome n (r .steps)
     → Eliminates n a answer (r .rows) (r .order)
@@ -70,16 +79,16 @@ module _ {w : List (List ℤ)} {k n pivot size i next : ℕ} (s : Searched w k n
       }
 
 abbrev Inv-rows : tie.InvT-rows
-Inv-rows n coefficients rows order w places k pivot₀ largest₀ i₀ pivot largest i = Searched w k n pivot largest i
+Inv-rows n coefficients rows order k pivot₀ largest₀ i₀ pivot largest i = Searched rows k n pivot largest i
 
 abbrev μ-rows : tie.MeasureT-rows
-μ-rows n coefficients rows order w places k pivot₀ largest₀ i₀ pivot largest i = n - i
+μ-rows n coefficients rows order k pivot₀ largest₀ i₀ pivot largest i = n - i
 
 abbrev Inv-steps : tie.InvT-steps
-Inv-steps n coefficients rows order w₀ places₀ k₀ w places k = Made n coefficients w places k
+Inv-steps n coefficients rows₀ order₀ k₀ rows order k = Made n coefficients rows order k
 
 abbrev μ-steps : tie.MeasureT-steps
-μ-steps n coefficients rows order w₀ places₀ k₀ w places k = n - k
+μ-steps n coefficients rows₀ order₀ k₀ rows order k = n - k
 
 -- once the rows are looked through, the pivot is found
 module _ {w : List (List ℤ)} {k n pivot size i : ℕ} (s : Searched w k n pivot size i) (h : n ≤ i) where
@@ -90,11 +99,12 @@ module _ {w : List (List ℤ)} {k n pivot size i : ℕ} (s : Searched w k n pivo
   size-largest places = sym (s .size-is ∙ ap (λ (x : ℕ). natAbs (at w x k)) pivot-is)
 
 fill-rows-requires : tie.Need-fill-rows-requires Inv-rows μ-rows Inv-steps μ-steps
-fill-rows-requires c κs = (c .before .pre, refl)
+fill-rows-requires c κs = (c .before .before .pre, refl)
 
 steps-holds : tie.Need-steps-holds Inv-rows μ-rows Inv-steps μ-steps
 steps-holds c =
-    record { few = omega arith; is = after-none (c .before .before .args .n) (c .before .before .args .coefficients .now) ∙ rw (← c .fill-rows .ensures .are) }
+    let s = c .before .before .before .before in
+    record { few = omega arith; is = after-none (s .args .n) (s .args .coefficients .now) ∙ rw (← c .before .fill-rows .ensures .are) }
 
 mul-magnitude : tie.Need-mul-magnitude Inv-rows μ-rows Inv-steps μ-steps
 mul-magnitude c = omega arith
@@ -160,13 +170,13 @@ module _ (c : tie.Else2 Inv-rows μ-rows Inv-steps μ-steps) where
   head = c .before .before .before .before .before .before
 
   abbrev n′ : ℕ
-  n′ = head .before .before .before .args .n
+  n′ = head .before .before .before .before .before .args .n
 
   abbrev w′ : List (List ℤ)
-  w′ = head .steps .w
+  w′ = head .steps .rows
 
   abbrev places′ : List ℕ
-  places′ = head .steps .places
+  places′ = head .steps .order
 
   abbrev k′ : ℕ
   k′ = head .steps .k
@@ -181,14 +191,18 @@ module _ (c : tie.Else2 Inv-rows μ-rows Inv-steps μ-steps) where
 
   ready : Pivoted (exchange [] w′ k′ (pivot-row w′ k′ n′)) k′ n′
   ready =
-      let s = head .before .before .before in
-      let b = rw (head .before .fill-rows .ensures .are) at (head .before .fill-rows .ensures .within) in
+      let s = head .before .before .before .before .before in
+      let f = head .before .before .fill-rows .ensures in
+      let b = rw (f .are) at (f .within) in
       kept-pivoted n′ (state w′ places′ k′) (s .pre) (omega arith)
       (rw (head .steps .inv .is) at (kept n′ (s .args .coefficients .now) (s .pre) b k′ (omega arith)))
       nonzero
 
+add-if4 : tie.Need-add-if4 Inv-rows μ-rows Inv-steps μ-steps
+add-if4 c = omega arith
+
 step-requires : tie.Need-step-requires Inv-rows μ-rows Inv-steps μ-steps
-step-requires c κs = (omega arith, rw (pivot-found c) (ready c))
+step-requires c κs = let e = c .before .before in (omega arith, rw (pivot-found e) (ready e))
 
 exchange-places-requires : tie.Need-exchange-places-requires Inv-rows μ-rows Inv-steps μ-steps
 exchange-places-requires c κs = omega arith
@@ -201,8 +215,11 @@ steps-less c = omega arith
 
 steps-again : tie.Need-steps-again Inv-rows μ-rows Inv-steps μ-steps
 steps-again c =
-    let e = c .before .before .before in
-    made-more (head e .steps .inv) (omega arith) (nonzero e) (pivot-found e) (c .before .before .step .ensures) (c .exchange-places .ensures)
+    let e = c .before in
+    ⊎-elim
+    (λ t. rw (t .5, t .6) (made-more (head e .steps .inv) (omega arith) (nonzero e) (pivot-found e) (t .2 .ensures) (t .4 .ensures)))
+    (λ t. rw (t .1, t .2) (made-last (head e .steps .inv) (omega arith) (omega (arith, t .0 .left)) (nonzero e)))
+    (c .if4 .came)
 
 -- the whole, once the steps are left
 module _ (c : tie.Left-steps Inv-rows μ-rows Inv-steps μ-steps) where
@@ -210,27 +227,27 @@ module _ (c : tie.Left-steps Inv-rows μ-rows Inv-steps μ-steps) where
   last = c .before
 
   abbrev a′ : List ℤ
-  a′ = last .before .before .before .args .coefficients .now
+  a′ = last .before .before .before .before .before .args .coefficients .now
 
-  whole : eliminated (last .before .before .before .args .n) a′ ≡ state (last .steps .w) (last .steps .places) (last .steps .k)
+  whole : eliminated (last .before .before .before .before .before .args .n) a′ ≡ state (last .steps .rows) (last .steps .order) (last .steps .k)
   unfolding eliminated
   whole =
       let d = last in
-      let n = d .before .before .before .args .n in
+      let n = d .before .before .before .before .before .args .n in
       ⊎-elim
       (λ t. let e : n ≡ d .steps .k = omega (arith, t .left, d .steps .inv .few) in ap (after-steps n a′) e ∙ d .steps .inv .is)
       (λ t. stays n a′ (d .steps .k) n (d .steps .inv .few)
       (rw (d .steps .inv .is)
-      (size-largest {w = d .steps .w} {k = d .steps .k} {n = n} {pivot = t .3 .pivot} {size = t .3 .largest} {i = t .3 .i}
-      (t .3 .inv) (omega (arith, t .4 .taken)) (d .steps .places) ∙ t .5 .taken))
+      (size-largest {w = d .steps .rows} {k = d .steps .k} {n = n} {pivot = t .3 .pivot} {size = t .3 .largest} {i = t .3 .i}
+      (t .3 .inv) (omega (arith, t .4 .taken)) (d .steps .order) ∙ t .5 .taken))
       ∙ d .steps .inv .is)
       (c .steps-test .came)
 
 returns : tie.Need-returns Inv-rows μ-rows Inv-steps μ-steps
-returns c = leaves (whole (c .before)) (sym (steps-zero-pivot _ _ (c .if4 .taken)))
+returns c = leaves (whole (c .before)) (sym (steps-zero-pivot _ _ (c .if5 .taken)))
 
 returns-2 : tie.Need-returns-2 Inv-rows μ-rows Inv-steps μ-steps
-returns-2 c = leaves (whole (c .before)) (sym (steps-complete _ _ (c .if4 .left)))
+returns-2 c = leaves (whole (c .before)) (sym (steps-complete _ _ (c .if5 .left)))
 
 pub eliminate-spec : {M : Type 1} → statement M
 eliminate-spec =
@@ -257,6 +274,7 @@ eliminate-spec =
     add-i-2
     rows-less
     rows-again
+    add-if4
     step-requires
     exchange-places-requires
     add-k

@@ -1,6 +1,6 @@
 -- `fractions::compare` meets its contract, in one proof with its own call. The measure is the smaller denominator: at the call each denominator
 -- is a remainder by one of the old ones, so both are smaller than it. Assumes nothing.
-use mathlib.Core.Path.{_≡_, sym, _∙_}
+use mathlib.Core.Path.{sym, _∙_}
 use mathlib.Core.Logic.{inl, inr}
 use native.Mathlib.Nat.{mod-lt}
 use native.Mathlib.Omega.{arith}

@@ -29,28 +29,28 @@ greatest-factor-requires : tie.Need-greatest-factor-requires
 greatest-factor-requires c κs = search needs
 
 mul-lacks-factor : tie.Need-mul-lacks-factor
-mul-lacks-factor c = omega (arith, place (c .before .before))
+mul-lacks-factor c = omega (arith, place c)
 
-array-copy-out-lacks-factor : tie.Need-array-copy-out-lacks-factor
-array-copy-out-lacks-factor c = place (c .before .before)
+element-copy-out-lacks-factor : tie.Need-element-copy-out-lacks-factor
+element-copy-out-lacks-factor c = place c
 
 mul-lacks-factor-2 : tie.Need-mul-lacks-factor-2
-mul-lacks-factor-2 c = omega (arith, place (c .before .before .before))
+mul-lacks-factor-2 c = omega (arith, place (c .before))
 
-array-read-lacks-factor : tie.Need-array-read-lacks-factor
-array-read-lacks-factor c = place (c .before .before .before)
+element-copy-out-lacks-factor-2 : tie.Need-element-copy-out-lacks-factor-2
+element-copy-out-lacks-factor-2 c = place (c .before)
 
 lacks-factor-requires : tie.Need-lacks-factor-requires
 lacks-factor-requires c κs = search needs
 
-add-t23 : tie.Need-add-t23
-add-t23 c = omega (arith, place (c .before .before .before .before))
+add-t19 : tie.Need-add-t19
+add-t19 c = omega (arith, place (c .before .before .before .before .before))
 
 returns : tie.Need-returns
 returns c =
-    let d = c .before .before .before .before in
-    let f : SFits w64 (getD (begun d .args .t2 .residuals) (d .greatest-factor .result) (pos 0)) = record { sfits = c .before .lacks-factor-arg .given } in
-    conclusion (begun d .args .n) (begun d .args .t2) (d .greatest-factor .result) (c .lacks-factor .result) (place-is d) (simp toZ-ofZ at (c .lacks-factor .ensures))
+    let d = c .before .before .before .before .before in
+    let f : SFits w64 (getD (begun d .args .t2 .residuals) (d .greatest-factor .result) (pos 0)) = record { sfits = c .before .before .before .before .lacks-factor-arg .given } in
+    conclusion (begun d .args .n) (begun d .args .t2) (d .greatest-factor .result) (c .before .before .lacks-factor .result) (place-is d) (simp toZ-ofZ at (c .before .before .lacks-factor .ensures))
 
 pub conclude-spec : {M : Type 1} → statement M
 conclude-spec =
@@ -58,9 +58,9 @@ conclude-spec =
     (tie.spec
     greatest-factor-requires
     mul-lacks-factor
-    array-copy-out-lacks-factor
+    element-copy-out-lacks-factor
     mul-lacks-factor-2
-    array-read-lacks-factor
+    element-copy-out-lacks-factor-2
     lacks-factor-requires
-    add-t23
+    add-t19
     returns)

@@ -1,11 +1,10 @@
 -- `recordfile::write_judged` meets its contract: the four fields, one behind the other. Assumes nothing.
-use mathlib.Core.Path.{_≡_, refl, sym, ap, _∙_}
-use mathlib.Core.List.{List, _++_}
-use Prim.Native.Nat.{ℕ, _+_, _*_}
+use mathlib.Core.List.{_++_}
+use Prim.Native.Nat.{_+_, _*_}
 use denote.Ref.{now}
 use Rattle.buffer.specs.Laws.{then}
 use Rattle.recordfile.specs.Layout.{verdictField, answerField, rowsField, factorField, judgedFields}
-use Rattle.recordfile.specs.Laws.{first-two, first-three, length-verdict, length-two, length-three}
+use Rattle.recordfile.specs.Laws.{length-verdict, length-two, length-three}
 use borrow.Author.Needs.{needs}
 use Rattle.recordfile.proofs.write_judged.Statement.{statement}
 use Rattle.recordfile.proofs.write_judged.Tie as tie

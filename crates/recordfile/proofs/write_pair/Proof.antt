@@ -1,5 +1,4 @@
 -- `recordfile::write_pair` meets its contract: the reach behind the residual. Assumes nothing.
-use mathlib.Core.Path.{_≡_}
 use denote.Ref.{now}
 use mir.Syntax.{w64}
 use mir.Val.{ofZ}

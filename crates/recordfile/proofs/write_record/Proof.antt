@@ -1,10 +1,8 @@
 -- `recordfile::write_record` meets its contract: the end field behind the four fields. Assumes nothing.
-use mathlib.Core.Path.{_≡_, refl, ap, _∙_}
-use mathlib.Core.List.{[], _++_}
+use mathlib.Core.Path.{refl}
 use Prim.Native.Nat.{_+_, _*_}
 use denote.Ref.{now}
 use Rattle.bigendian.specs.Number.{bytes}
-use Rattle.buffer.specs.Buffer.{onto}
 use Rattle.buffer.specs.Laws.{then}
 use Rattle.fields.specs.Field.{header, field}
 use Rattle.recordfile.specs.Layout.{judgedFields, recordOf}

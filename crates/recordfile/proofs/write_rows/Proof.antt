@@ -1,5 +1,5 @@
 -- `recordfile::write_rows` meets its contract: the header, and the pairs behind it. Assumes nothing.
-use mathlib.Core.Path.{_≡_, ap, _∙_}
+use mathlib.Core.Path.{ap, _∙_}
 use Prim.Native.Nat.{_*_}
 use denote.Ref.{now}
 use lib.ListN.{length}

@@ -1,5 +1,5 @@
 -- `recordfile::write_verdict` meets its contract: its stores, one behind the other, are the field. Assumes nothing.
-use mathlib.Core.Path.{_≡_, ap, _∙_}
+use mathlib.Core.Path.{ap, _∙_}
 use mathlib.Core.List.{[], _∷_}
 use native.Mathlib.Omega.{arith}
 use denote.Ref.{now}
@@ -9,7 +9,6 @@ use borrow.Author.Needs.{needs}
 use Rattle.bigendian.specs.Number.{bytes}
 use Rattle.buffer.specs.Buffer.{onto}
 use Rattle.fields.specs.Field.{field}
-use Rattle.recordfile.specs.Layout.{verdictField}
 use Rattle.recordfile.proofs.write_verdict.Statement.{statement}
 use Rattle.recordfile.proofs.write_verdict.Tie as tie
 

@@ -1,7 +1,7 @@
 -- `rounding::nearest` meets its contract. Where the quotient goes up, the divisor is at least 2, so that the next number fits.
 -- Assumes nothing.
-use mathlib.Core.Path.{_≡_, sym, ap, _∙_}
-use Prim.Native.Nat.{ℕ, _+_, _*_, _/_, _%_, _<_, _≤_, _^_}
+use mathlib.Core.Path.{sym, _∙_}
+use Prim.Native.Nat.{ℕ, _+_, _/_, _%_, _<_, _≤_, _^_}
 use native.Mathlib.Nat.{mod-lt, div-add-mod', mul-le-mul-left}
 use native.Mathlib.Omega.{arith}
 use borrow.Author.Needs.{needs}

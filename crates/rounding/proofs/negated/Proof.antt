@@ -7,7 +7,7 @@ use mir.Syntax.{w64}
 use mir.Val.{SFits}
 use mir.Facts.{toZ-ofZ, toZ-pos}
 use borrow.Author.Needs.{needs}
-use Rattle.integers.specs.Diff.{sub-parts, neg-parts, size-parts}
+use Rattle.integers.specs.Diff.{sub-parts, neg-parts}
 use Rattle.integers.specs.Order.{ints}
 use Rattle.integers.specs.Size.{fits, natAbs-subℤ, sfits-negℤ}
 use Rattle.rounding.proofs.negated.Statement.{statement}

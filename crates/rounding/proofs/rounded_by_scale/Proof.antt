@@ -1,6 +1,6 @@
 -- `rounding::rounded_by_scale` meets its contract: the magnitude with the half added, and the sign of p. Assumes nothing.
 use mathlib.Core.Path.{_≡_, sym, ap, _∙_}
-use Prim.Native.Nat.{ℕ, _+_, _/_, _≤_, _^_}
+use Prim.Native.Nat.{ℕ, _/_, _≤_, _^_}
 use native.Mathlib.Omega.{arith}
 use mathlib.Core.Bool.{true, false}
 use lib.Signed.{ltZ}

@@ -1,6 +1,6 @@
 -- `rounding::rounded_quotient` meets its contract: the magnitudes are rounded, and the tests of the signs give the sign. Assumes nothing.
 use mathlib.Core.Path.{_≡_, sym, ap, ap₂, _∙_, subst}
-use Prim.Native.Nat.{ℕ, _≤_, _<_, _^_}
+use Prim.Native.Nat.{ℕ, _≤_, _^_}
 use native.Mathlib.Omega.{arith}
 use lib.IntN.{ℤ, pos, negℤ, natAbs}
 use mir.Syntax.{w64}

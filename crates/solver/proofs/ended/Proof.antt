@@ -1,10 +1,10 @@
--- `solver::ended` meets its contract: where the round stayed within its limits, the standing's unmet row decides.
+-- `solver::ended` meets its contract: where the round stayed within its limits, the unmet row decides.
 -- Assumes nothing.
 use Rattle.solver.proofs.ended.Statement.{statement}
 use Rattle.solver.proofs.ended.Tie as tie
 
 returns : tie.Need-returns
-returns c = rw (c .before .if1 .taken)
+returns c = rw (c .if1 .taken)
 
 returns-2 : tie.Need-returns-2
 returns-2 c = rw (c .if1 .left)

@@ -1,7 +1,6 @@
 -- `substitution::backward_pass` meets its contract. The loop's invariant: the corrections left to form, from those formed, give the whole.
 -- Assumes nothing.
 use mathlib.Core.Path.{_≡_, refl, sym, ap, _∙_}
-use mathlib.Core.Bool.{Bool, true}
 use mathlib.Core.List.{List}
 use Prim.Native.Nat.{ℕ, suc, _-_, _<_, _≤_}
 use native.Mathlib.Omega.{arith}
@@ -21,10 +20,7 @@ use Rattle.substitution.proofs.backward_pass.Tie as tie
 
 abbrev Inv-loop : tie.InvT-loop
 Inv-loop rows z n d₀ left₀ d left =
-    (left ≤ n)
-    × Within correction-limit (d .values)
-    × (backward-from rows z n left (d .values) ≡ backward rows z n)
-    × (d .within ≡ true)
+    (left ≤ n) × Within correction-limit d × (backward-from rows z n left d ≡ backward rows z n)
 
 abbrev μ-loop : tie.MeasureT-loop
 μ-loop rows z n d₀ left₀ d left = left
@@ -41,7 +37,7 @@ module _ (c : tie.At-loop Inv-loop μ-loop) where
   n′ = c .before .args .n
 
   abbrev d′ : List ℤ
-  d′ = c .loop .d .values
+  d′ = c .loop .d
 
   abbrev i′ : ℕ
   i′ = c .loop .left - 1
@@ -50,23 +46,23 @@ module _ (c : tie.At-loop Inv-loop μ-loop) where
   value = correction-at rows′ z′ n′ i′ d′
 
   read-right : toZ w64 (ofZ w64 (getD z′ i′ (pos 0))) ≡ getD z′ i′ (pos 0)
-  read-right = toZ-ofZ (sfits-size (omega (arith, c .before .pre .right i′)))
+  read-right = toZ-ofZ (sfits-size (omega (arith, c .before .pre .0 .right i′)))
 
   -- with a correction left to form
   left-is : 0 < c .loop .left → backward rows′ z′ n′ ≡ backward-from rows′ z′ n′ (suc i′) d′
   left-is h = let l : c .loop .left ≡ suc i′ = omega arith in rw l at (sym (c .loop .inv .2))
 
-read-value : (c : tie.After-correction-of Inv-loop μ-loop) → toZ w64 (ofZ w64 (c .correction-of .result)) ≡ value (c .before .before .before .before .before .before)
+read-value : (c : tie.After-correction-of Inv-loop μ-loop) → toZ w64 (ofZ w64 (c .correction-of .result)) ≡ value (c .before .before .before .before .before)
 read-value c =
-    let e = c .before .before .before .before .before .before in
+    let e = c .before .before .before .before .before in
     toZ-ofZ {w = w64} (record { sfits = c .correction-of .ok }) ∙ rw (read-right e) at (c .correction-of .ensures)
 
-value-size : (c : tie.After-magnitude Inv-loop μ-loop) → c .magnitude .result ≡ natAbs (value (c .before .before .before .before .before .before .before))
+value-size : (c : tie.After-magnitude Inv-loop μ-loop) → c .magnitude .result ≡ natAbs (value (c .before .before .before .before .before .before))
 value-size c = c .magnitude .ensures ∙ ap natAbs (read-value (c .before))
 
 loop-holds : tie.Need-loop-holds Inv-loop μ-loop
 unfolding backward
-loop-holds c = (omega arith, none-within, refl, refl)
+loop-holds c = rw (c .pre .1) (omega arith, none-within, refl)
 
 sub-i : tie.Need-sub-i Inv-loop μ-loop
 sub-i c = omega arith
@@ -85,15 +81,15 @@ element-copy-out-correction-of c = omega arith
 
 correction-of-requires : tie.Need-correction-of-requires Inv-loop μ-loop
 correction-of-requires c κs =
-    let e = c .before .before .before .before .before in
-    rw (read-right e) (correctable (rows′ e) (z′ e) (n′ e) (i′ e) (d′ e) (e .before .pre) (omega arith) (e .loop .inv .1))
+    let e = c .before .before .before .before in
+    rw (read-right e) (correctable (rows′ e) (z′ e) (n′ e) (i′ e) (d′ e) (e .before .pre .0) (omega arith) (e .loop .inv .1))
 
 magnitude-requires : tie.Need-magnitude-requires Inv-loop μ-loop
 magnitude-requires c κs = search needs
 
 returns : tie.Need-returns Inv-loop μ-loop
 returns c =
-    let e = c .before .before .before .before .before .before .before .before in
+    let e = c .before .before .before .before .before .before .before in
     let h = value-size (c .before) in
     sym (left-is e (omega arith) ∙ backward-stop (rows′ e) (z′ e) (n′ e) (i′ e) (d′ e) (omega arith))
 
@@ -108,21 +104,19 @@ loop-less c = omega arith
 
 loop-again : tie.Need-loop-again Inv-loop μ-loop
 loop-again c =
-    let e = c .before .before .before .before .before .before .before .before in
+    let e = c .before .before .before .before .before .before .before in
     let h : natAbs (value e) ≤ correction-limit = omega (arith, value-size (c .before)) in
     rw (read-value (c .before .before)) (
       omega arith,
       all-set-at (λ (_ : ℕ) (x : ℤ). natAbs x ≤ correction-limit) (pos 0) (d′ e) (i′ e) (value e) h (e .loop .inv .1),
       sym (backward-more (rows′ e) (z′ e) (n′ e) (i′ e) (d′ e) h) ∙ sym (left-is e (omega arith)),
-      e .loop .inv .3,
     )
 
 returns-2 : tie.Need-returns-2 Inv-loop μ-loop
 returns-2 c =
     let e = c .before in
     let l : e .loop .left ≡ 0 = omega arith in
-    ap (λ (b : Bool). record { within = b; values = d′ e }) (e .loop .inv .3)
-    ∙ sym (rw l at (sym (e .loop .inv .2)) ∙ backward-done (rows′ e) (z′ e) (n′ e) (d′ e))
+    sym (rw l at (sym (e .loop .inv .2)) ∙ backward-done (rows′ e) (z′ e) (n′ e) (d′ e))
 
 pub backward-pass-spec : {M : Type 1} → statement M
 backward-pass-spec =

@@ -1,5 +1,5 @@
 -- `verdict_text::verdict_text` meets its contract: the refusal's line, or the lines of the answer. Assumes nothing.
-use mathlib.Core.Path.{_≡_, subst}
+use mathlib.Core.Path.{subst}
 use denote.Ref.{now}
 use lib.ListN.{length}
 use Rattle.casefile.specs.Decode.{decode}

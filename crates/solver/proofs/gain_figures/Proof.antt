@@ -1,7 +1,6 @@
--- `solver::gained_figures` meets its contract. The loop's invariant: the figures left to form, from those formed, give the whole.
+-- `solver::gain_figures` meets its contract. The loop's invariant: the figures left to form, from those formed, give the whole.
 -- Assumes nothing.
-use mathlib.Core.Path.{_≡_, refl, sym, ap, _∙_}
-use mathlib.Core.Bool.{Bool, true}
+use mathlib.Core.Path.{_≡_, sym, ap, _∙_}
 use mathlib.Core.List.{List}
 use Prim.Native.Nat.{ℕ, _-_, _≤_}
 use native.Mathlib.Nat.{sub-zero}
@@ -18,23 +17,22 @@ use Rattle.elimination.specs.Matrix.{Within}
 use Rattle.solver.specs.Refinement.{figure-limit, gain, gained-from}
 use Rattle.solver.specs.Sizes.{gain-le}
 use Rattle.solver.specs.Laws.{gained-more, gained-stop, gained-done}
-use Rattle.solver.proofs.gained_figures.Statement.{statement}
-use Rattle.solver.proofs.gained_figures.Tie as tie
+use Rattle.solver.proofs.gain_figures.Statement.{statement}
+use Rattle.solver.proofs.gain_figures.Tie as tie
 
 abbrev Inv-loop : tie.InvT-loop
-Inv-loop n corrections next₀ j₀ next j =
+Inv-loop n trial₀ corrections j₀ trial j =
     (j ≤ n)
-    × Within figure-limit (next .trial)
-    × (gained-from corrections j (n - j) (next .trial) ≡ gained-from corrections 0 n (next₀ .trial))
-    × (next .within ≡ true)
+    × Within figure-limit trial
+    × (gained-from corrections j (n - j) trial ≡ gained-from corrections 0 n trial₀)
 
 abbrev μ-loop : tie.MeasureT-loop
-μ-loop n corrections next₀ j₀ next j = n - j
+μ-loop n trial₀ corrections j₀ trial j = n - j
 
 -- at the loop's head: the figures so far, the corrections, and the tank
 module _ (c : tie.At-loop Inv-loop μ-loop) where
   abbrev y′ : List ℤ
-  y′ = c .loop .next .trial
+  y′ = c .loop .trial
 
   abbrev d′ : List ℤ
   d′ = c .before .args .corrections .now
@@ -75,7 +73,7 @@ gain-is : (c : tie.After-magnitude Inv-loop μ-loop) → c .magnitude .result �
 gain-is c = c .magnitude .ensures ∙ ap natAbs (read-gain (c .before))
 
 loop-holds : tie.Need-loop-holds Inv-loop μ-loop
-loop-holds c = (omega arith, c .pre .figures, rw (sub-zero (c .args .n)), refl)
+loop-holds c = (omega arith, c .pre .figures, rw (sub-zero (c .args .n)))
 
 mul-v : tie.Need-mul-v Inv-loop μ-loop
 mul-v c = omega arith
@@ -115,14 +113,14 @@ module _ (c : tie.Else1 Inv-loop μ-loop) where
   narrow : SFits w32 (gain (y′ head′) (d′ head′) (j′ head′))
   narrow = sfits-size (omega (arith, kept))
 
-cast-next : tie.Need-cast-next Inv-loop μ-loop
-cast-next c = rw (read-gain (c .before .before)) (narrow c)
+cast-trial : tie.Need-cast-trial Inv-loop μ-loop
+cast-trial c = rw (read-gain (c .before .before)) (narrow c)
 
-mul-t8 : tie.Need-mul-t8 Inv-loop μ-loop
-mul-t8 c = omega arith
+mul-t7 : tie.Need-mul-t7 Inv-loop μ-loop
+mul-t7 c = omega arith
 
-element-set-from-next : tie.Need-element-set-from-next Inv-loop μ-loop
-element-set-from-next c = omega arith
+element-set-from-trial : tie.Need-element-set-from-trial Inv-loop μ-loop
+element-set-from-trial c = omega arith
 
 add-j : tie.Need-add-j Inv-loop μ-loop
 add-j c = omega arith
@@ -137,17 +135,15 @@ loop-again c =
       omega arith,
       all-set-at (λ (_ : ℕ) (x : ℤ). natAbs x ≤ figure-limit) (pos 0) (y′ d) (j′ d) (gain (y′ d) (d′ d) (j′ d)) (kept c) (d .loop .inv .1),
       sym (gained-more (d′ d) (j′ d) (n′ d) (y′ d) (omega arith) (kept c)) ∙ d .loop .inv .2,
-      d .loop .inv .3,
     )
 
 returns-2 : tie.Need-returns-2 Inv-loop μ-loop
 returns-2 c =
     let d = c .before in
-    ap (λ (b : Bool). record { within = b; trial = y′ d }) (d .loop .inv .3)
-    ∙ sym (sym (d .loop .inv .2) ∙ gained-done (d′ d) (j′ d) (n′ d) (y′ d) (omega arith))
+    sym (sym (d .loop .inv .2) ∙ gained-done (d′ d) (j′ d) (n′ d) (y′ d) (omega arith))
 
-pub gained-figures-spec : {M : Type 1} → statement M
-gained-figures-spec =
+pub gain-figures-spec : {M : Type 1} → statement M
+gain-figures-spec =
     tie.close
     (tie.spec
     Inv-loop
@@ -161,9 +157,9 @@ gained-figures-spec =
     add-v
     magnitude-requires
     returns
-    cast-next
-    mul-t8
-    element-set-from-next
+    cast-trial
+    mul-t7
+    element-set-from-trial
     add-j
     loop-less
     loop-again

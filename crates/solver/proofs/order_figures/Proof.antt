@@ -1,6 +1,6 @@
--- `solver::ordered_figures` meets its contract. The loop's invariant: the first i places are filled.
+-- `solver::order_figures` meets its contract. The loop's invariant: the first i places are filled.
 -- Assumes nothing.
-use mathlib.Core.Path.{_≡_, refl}
+use mathlib.Core.Path.{_≡_}
 use Prim.Native.Nat.{_-_, _≤_}
 use native.Mathlib.Omega.{arith}
 use lib.ListN.{getD}
@@ -9,8 +9,8 @@ use mir.Syntax.{w64}
 use mir.Val.{toZ, ofZ}
 use mir.Facts.{toZ-ofZ}
 use Rattle.integers.specs.Tables.{filled, filled-more}
-use Rattle.solver.proofs.ordered_figures.Statement.{statement}
-use Rattle.solver.proofs.ordered_figures.Tie as tie
+use Rattle.solver.proofs.order_figures.Statement.{statement}
+use Rattle.solver.proofs.order_figures.Tie as tie
 
 abbrev Inv-loop : tie.InvT-loop
 Inv-loop n figures order z₀ i₀ z i = (i ≤ n) × (z ≡ filled 8 i (pos 0) (λ k. getD figures (getD order k 0) (pos 0)))
@@ -20,7 +20,7 @@ abbrev μ-loop : tie.MeasureT-loop
 
 loop-holds : tie.Need-loop-holds Inv-loop μ-loop
 unfolding filled
-loop-holds c = (omega arith, refl)
+loop-holds c = (omega arith, c .pre .2)
 
 mul-p : tie.Need-mul-p Inv-loop μ-loop
 mul-p c = omega arith
@@ -38,11 +38,11 @@ element-copy-out-z c =
     let d = c .before .before in
     omega (arith, d .before .pre .1 .below (d .loop .i) (omega arith))
 
-mul-z-2 : tie.Need-mul-z-2 Inv-loop μ-loop
-mul-z-2 c = omega arith
+mul-t11 : tie.Need-mul-t11 Inv-loop μ-loop
+mul-t11 c = omega arith
 
-array-set-from-z : tie.Need-array-set-from-z Inv-loop μ-loop
-array-set-from-z c = omega arith
+element-set-from-z : tie.Need-element-set-from-z Inv-loop μ-loop
+element-set-from-z c = omega arith
 
 add-i : tie.Need-add-i Inv-loop μ-loop
 add-i c = omega arith
@@ -65,8 +65,8 @@ returns c =
     let e : d .loop .i ≡ d .before .args .n = omega arith in
     rw e at (d .loop .inv .1)
 
-pub ordered-figures-spec : {M : Type 1} → statement M
-ordered-figures-spec =
+pub order-figures-spec : {M : Type 1} → statement M
+order-figures-spec =
     tie.close
     (tie.spec
     Inv-loop
@@ -76,8 +76,8 @@ ordered-figures-spec =
     element-copy-out-p
     mul-z
     element-copy-out-z
-    mul-z-2
-    array-set-from-z
+    mul-t11
+    element-set-from-z
     add-i
     loop-less
     loop-again

@@ -1,0 +1,87 @@
+-- `judge::fill_scaled_sides` meets its contract. The loop's invariant: the places below i are written again, with D b of their rows.
+-- Assumes nothing.
+use mathlib.Core.Path.{_≡_, refl, ap₂, _∙_}
+use mathlib.Core.List.{List}
+use Prim.Native.Nat.{ℕ, _-_, _≤_}
+use native.Mathlib.Omega.{arith}
+use lib.ListN.{set, getD}
+use lib.IntN.{ℤ, pos, _*ℤ_}
+use mir.Syntax.{w32, w64}
+use mir.Val.{SFits}
+use mir.Facts.{toZ-ofZ}
+use borrow.Author.Needs.{needs}
+use Rattle.judge.specs.Places.{rewritten, rewritten-more, rewritten-all}
+use Rattle.judge.proofs.fill_scaled_sides.Statement.{statement}
+use Rattle.judge.proofs.fill_scaled_sides.Tie as tie
+
+-- D b of each row
+abbrev side : ℕ → List ℤ → ℕ → ℤ
+side D b k = pos D *ℤ getD b k (pos 0)
+
+abbrev Inv-loop : tie.InvT-loop
+Inv-loop n scale right-sides residuals₀ i₀ residuals i =
+    (i ≤ n) × (residuals ≡ rewritten (side scale right-sides) residuals₀ i)
+
+abbrev μ-loop : tie.MeasureT-loop
+μ-loop n scale right-sides residuals₀ i₀ residuals i = n - i
+
+loop-holds : tie.Need-loop-holds Inv-loop μ-loop
+loop-holds c = (omega arith, refl)
+
+mul-scaled-side : tie.Need-mul-scaled-side Inv-loop μ-loop
+mul-scaled-side c = search needs
+
+element-copy-out-scaled-side : tie.Need-element-copy-out-scaled-side Inv-loop μ-loop
+element-copy-out-scaled-side c = search needs
+
+scaled-side-requires : tie.Need-scaled-side-requires Inv-loop μ-loop
+scaled-side-requires c κs = search needs
+
+mul-t12 : tie.Need-mul-t12 Inv-loop μ-loop
+mul-t12 c = search needs
+
+element-set-from-residuals : tie.Need-element-set-from-residuals Inv-loop μ-loop
+element-set-from-residuals c = search needs
+
+add-i : tie.Need-add-i Inv-loop μ-loop
+add-i c = search needs
+
+loop-less : tie.Need-loop-less Inv-loop μ-loop
+loop-less c = search needs
+
+loop-again : tie.Need-loop-again Inv-loop μ-loop
+loop-again c =
+    let l = c .before .before .before in
+    let g = l .before .args in
+    let i = l .loop .i in
+    let f : SFits w32 (getD (g .right-sides .now) i (pos 0)) = record { sfits = c .before .scaled-side-arg .given } in
+    let e = simp toZ-ofZ at (c .scaled-side .ensures .0) in
+    let o : SFits w64 (c .scaled-side .result) = record { sfits = c .scaled-side .ok } in (
+      omega arith,
+      simp toZ-ofZ (ap₂ (λ l v. set l i v) (l .loop .inv .1) e ∙ rewritten-more (pos 0) (side (g .scale) (g .right-sides .now)) (g .residuals .now) i),
+    )
+
+returns : tie.Need-returns Inv-loop μ-loop
+returns c =
+    let g = c .before .before in
+    let a = g .args in
+    let q : c .before .loop .i ≡ a .n = omega arith in
+    rw q at (c .before .loop .inv .1)
+    ∙ rewritten-all (pos 0) (side (a .scale) (a .right-sides .now)) (a .residuals .now) (a .n) (g .pre .1)
+
+pub fill-scaled-sides-spec : {M : Type 1} → statement M
+fill-scaled-sides-spec =
+    tie.close
+    (tie.spec
+    Inv-loop
+    μ-loop
+    loop-holds
+    mul-scaled-side
+    element-copy-out-scaled-side
+    scaled-side-requires
+    mul-t12
+    element-set-from-residuals
+    add-i
+    loop-less
+    loop-again
+    returns)

@@ -1,0 +1,80 @@
+-- `judge::fill_scaled_tolerances` meets its contract. The loop's invariant: the places below i are written again, with D f of their rows.
+-- Assumes nothing.
+use mathlib.Core.Path.{_≡_, refl, ap₂, _∙_}
+use mathlib.Core.List.{List}
+use Prim.Native.Nat.{ℕ, _*_, _-_, _≤_}
+use native.Mathlib.Omega.{arith}
+use lib.ListN.{set, getD}
+use borrow.Author.Needs.{needs}
+use Rattle.judge.specs.Places.{rewritten, rewritten-more, rewritten-all}
+use Rattle.judge.proofs.fill_scaled_tolerances.Statement.{statement}
+use Rattle.judge.proofs.fill_scaled_tolerances.Tie as tie
+
+-- D f of each row
+abbrev tolerance : ℕ → List ℕ → ℕ → ℕ
+tolerance D f k = D * getD f k 0
+
+abbrev Inv-loop : tie.InvT-loop
+Inv-loop n scale right-tolerances reaches₀ i₀ reaches i =
+    (i ≤ n) × (reaches ≡ rewritten (tolerance scale right-tolerances) reaches₀ i)
+
+abbrev μ-loop : tie.MeasureT-loop
+μ-loop n scale right-tolerances reaches₀ i₀ reaches i = n - i
+
+loop-holds : tie.Need-loop-holds Inv-loop μ-loop
+loop-holds c = (omega arith, refl)
+
+mul-scaled-tolerance : tie.Need-mul-scaled-tolerance Inv-loop μ-loop
+mul-scaled-tolerance c = search needs
+
+element-copy-out-scaled-tolerance : tie.Need-element-copy-out-scaled-tolerance Inv-loop μ-loop
+element-copy-out-scaled-tolerance c = search needs
+
+scaled-tolerance-requires : tie.Need-scaled-tolerance-requires Inv-loop μ-loop
+scaled-tolerance-requires c κs = search needs
+
+mul-reaches : tie.Need-mul-reaches Inv-loop μ-loop
+mul-reaches c = search needs
+
+element-write-reaches : tie.Need-element-write-reaches Inv-loop μ-loop
+element-write-reaches c = search needs
+
+add-i : tie.Need-add-i Inv-loop μ-loop
+add-i c = search needs
+
+loop-less : tie.Need-loop-less Inv-loop μ-loop
+loop-less c = search needs
+
+loop-again : tie.Need-loop-again Inv-loop μ-loop
+loop-again c =
+    let l = c .before .before .before in
+    let g = l .before .args in
+    let i = l .loop .i in (
+      omega arith,
+      ap₂ (λ l v. set l i v) (l .loop .inv .1) (c .scaled-tolerance .ensures .0) ∙ rewritten-more 0 (tolerance (g .scale) (g .right-tolerances .now)) (g .reaches .now) i,
+    )
+
+returns : tie.Need-returns Inv-loop μ-loop
+returns c =
+    let g = c .before .before in
+    let a = g .args in
+    let q : c .before .loop .i ≡ a .n = omega arith in
+    rw q at (c .before .loop .inv .1)
+    ∙ rewritten-all 0 (tolerance (a .scale) (a .right-tolerances .now)) (a .reaches .now) (a .n) (g .pre .1)
+
+pub fill-scaled-tolerances-spec : {M : Type 1} → statement M
+fill-scaled-tolerances-spec =
+    tie.close
+    (tie.spec
+    Inv-loop
+    μ-loop
+    loop-holds
+    mul-scaled-tolerance
+    element-copy-out-scaled-tolerance
+    scaled-tolerance-requires
+    mul-reaches
+    element-write-reaches
+    add-i
+    loop-less
+    loop-again
+    returns)
