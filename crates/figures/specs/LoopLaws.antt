@@ -28,7 +28,8 @@ module _ {X : Type 0} (k : Kind X) (f : X → Bool) (s : List ℕ) (at : ℕ) (o
     pub test : all f (figures k (length out₀ - i) (drop p s)) ≡ all f (figures k (length out₀) (drop at s))
     pub made : take i out ++ figures k (length out₀ - i) (drop p s) ≡ figures k (length out₀) (drop at s)
 
-  pub read-begun : at + k .width * length out₀ ≤ length s → Reading out₀ 0 at
+module _ {X : Type 0} {k : Kind X} {f : X → Bool} {s : List ℕ} {at : ℕ} {out₀ : List X} where
+  pub read-begun : at + k .width * length out₀ ≤ length s → Reading k f s at out₀ out₀ 0 at
   read-begun h =
       record {
         inside = omega arith;
@@ -39,26 +40,25 @@ module _ {X : Type 0} (k : Kind X) (f : X → Bool) (s : List ℕ) (at : ℕ) (o
       }
 
   -- the next figure has its bytes
-  pub read-next : {out : List X} {i p : ℕ} → Reading out i p → i < length out → p + k .width ≤ length s
+  pub read-next : {out : List X} {i p : ℕ} → Reading k f s at out₀ out i p → i < length out → p + k .width ≤ length s
   read-next {out} {i} {p} r h =
       let m : length out₀ - i ≡ suc (length out₀ - (i + 1)) = omega (arith, r .same) in
       let q : p + k .width * suc (length out₀ - (i + 1)) ≤ length s = rw m at (r .room) in
       omega (arith, mul-suc (k .width) (length out₀ - (i + 1)))
 
-  pub read-stopped : {out : List X} {i p : ℕ} → Reading out i p → i < length out → (exit : List X)
-      → f (k .figure (be (take (k .width) (drop p s)))) ≡ false → Read k f (drop at s) out₀ false exit
+  -- the next figure is x: refused, or set
+  pub read-stopped : {out exit : List X} {i p : ℕ} {x : X} → Reading k f s at out₀ out i p → i < length out
+      → x ≡ k .figure (be (take (k .width) (drop p s))) → f x ≡ false → Read k f (drop at s) out₀ false exit
   unfolding all figures
-  read-stopped {out} {i} {p} r h exit t =
+  read-stopped {out} {exit} {i} {p} {x} r h e t =
       let m : length out₀ - i ≡ suc (length out₀ - (i + 1)) = omega (arith, r .same) in
       let q : all f (figures k (suc (length out₀ - (i + 1))) (drop p s)) ≡ all f (figures k (length out₀) (drop at s)) = rw m at (r .test) in
-      record { test = rw t at q; made = λ e. no e }
+      record { test = rw (← e, t) at q; made = λ e. no e }
 
-  pub read-turn : {out : List X} {i p : ℕ} → Reading out i p → i < length out → f (k .figure (be (take (k .width) (drop p s)))) ≡ true
-      → Reading (set out i (k .figure (be (take (k .width) (drop p s))))) (i + 1) (p + k .width)
+  pub read-turn : {out : List X} {i p : ℕ} {x : X} → Reading k f s at out₀ out i p → i < length out
+      → x ≡ k .figure (be (take (k .width) (drop p s))) → f x ≡ true → Reading k f s at out₀ (set out i x) (i + 1) (p + k .width)
   unfolding all figures
-  read-turn {out} {i} {p} r h t =
-      let x : X = k .figure (be (take (k .width) (drop p s))) in
-      let l : ℕ = length out₀ - (i + 1) in
+  read-turn {out} {i} {p} {x} r h e t =
       let m : length out₀ - i ≡ suc (length out₀ - (i + 1)) = omega (arith, r .same) in
       let q : all f (figures k (suc (length out₀ - (i + 1))) (drop p s)) ≡ all f (figures k (length out₀) (drop at s)) = rw m at (r .test) in
       let d : take i out ++ figures k (suc (length out₀ - (i + 1))) (drop p s) ≡ figures k (length out₀) (drop at s) = rw m at (r .made) in
@@ -67,7 +67,7 @@ module _ {X : Type 0} (k : Kind X) (f : X → Bool) (s : List ℕ) (at : ℕ) (o
         inside = omega (arith, r .same);
         room = omega (arith, mul-suc (k .width) (length out₀ - (i + 1)));
         same = length-set out i x ∙ r .same;
-        test = rw (← (drop-drop (k .width) p s)) (rw t at q);
+        test = rw (← (drop-drop (k .width) p s)) (rw (← e, t) at q);
         made =
             rw (
               add-one i,
@@ -76,10 +76,10 @@ module _ {X : Type 0} (k : Kind X) (f : X → Bool) (s : List ℕ) (at : ℕ) (o
               ← (drop-drop (k .width) p s),
               ← (add-one i),
             )
-            d;
+            (rw (← e) at d);
       }
 
-  pub read-ended : {out : List X} {i p : ℕ} → Reading out i p → length out ≤ i → Read k f (drop at s) out₀ true out
+  pub read-ended : {out : List X} {i p : ℕ} → Reading k f s at out₀ out i p → length out ≤ i → Read k f (drop at s) out₀ true out
   unfolding all figures
   read-ended {out} {i} {p} r h =
       let m : length out₀ - i ≡ 0 = omega (arith, r .same) in
@@ -94,22 +94,23 @@ module _ {X : Type 0} (f : X → Bool) (l : List X) where
     pub inside : i ≤ length l
     pub test : all f (drop i l) ≡ all f l
 
-  pub test-begun : Testing 0
+module _ {X : Type 0} {f : X → Bool} {l : List X} where
+  pub test-begun : Testing f l 0
   test-begun = record { inside = omega arith; test = refl }
 
-  pub test-stopped : (d : X) {i : ℕ} → Testing i → i < length l → f (getD l i d) ≡ false → false ≡ all f l
+  pub test-stopped : (d : X) {i : ℕ} → Testing f l i → i < length l → f (getD l i d) ≡ false → false ≡ all f l
   unfolding all
   test-stopped d {i} r h t =
       let q : all f (getD l i d ∷ drop (suc i) l) ≡ all f l = rw (drop-cons l i d h) at (r .test) in
       rw t at q
 
-  pub test-turn : (d : X) {i : ℕ} → Testing i → i < length l → f (getD l i d) ≡ true → Testing (i + 1)
+  pub test-turn : (d : X) {i : ℕ} → Testing f l i → i < length l → f (getD l i d) ≡ true → Testing f l (i + 1)
   unfolding all
   test-turn d {i} r h t =
       let q : all f (getD l i d ∷ drop (suc i) l) ≡ all f l = rw (drop-cons l i d h) at (r .test) in
       record { inside = omega arith; test = rw (add-one i) (rw t at q) }
 
-  pub test-ended : {i : ℕ} → Testing i → length l ≤ i → true ≡ all f l
+  pub test-ended : {i : ℕ} → Testing f l i → length l ≤ i → true ≡ all f l
   unfolding all
   test-ended {i} r h = rw (drop-of-length-le l h) at (r .test)
 
@@ -123,10 +124,6 @@ module _ {X : Type 0} (k : Kind X) (l : List X) (out₀ : List ℕ) where
     pub same : length out ≡ length out₀
     pub is : out ≡ onto (spread k (take i l)) out₀
 
-  pub write-begun : k .width * length l ≤ length out₀ → Writing out₀ 0 0
-  unfolding spread
-  write-begun h = record { count = omega arith; room = h; place = sym (mul-zero (k .width)); same = refl; is = refl }
-
   more : (d : X) (i : ℕ) → i < length l → spread k (take (suc i) l) ≡ spread k (take i l) ++ bytes (k .width) (k .number (getD l i d))
   unfolding spread
   more d i h = rw (take-suc l i d h, spread-append k (take i l) (getD l i d ∷ []), append-nil)
@@ -136,19 +133,24 @@ module _ {X : Type 0} (k : Kind X) (l : List X) (out₀ : List ℕ) where
       let n : length (take i l) ≡ i = length-take i l ∙ omega arith in
       length-spread k (take i l) ∙ rw n
 
+module _ {X : Type 0} {k : Kind X} {l : List X} {out₀ : List ℕ} where
+  pub write-begun : k .width * length l ≤ length out₀ → Writing k l out₀ out₀ 0 0
+  unfolding spread
+  write-begun h = record { count = omega arith; room = h; place = sym (mul-zero (k .width)); same = refl; is = refl }
+
   -- the next figure has room
-  pub write-next : {out : List ℕ} {i p : ℕ} → Writing out i p → i < length l → p + k .width ≤ length out
+  pub write-next : {out : List ℕ} {i p : ℕ} → Writing k l out₀ out i p → i < length l → p + k .width ≤ length out
   write-next {out} {i} {p} r h =
       let m : k .width * suc i ≤ k .width * length l = mul-le-mul-left (k .width) h in
       omega (arith, r, mul-suc (k .width) i)
 
-  pub write-turn : (d : X) {out ys : List ℕ} {i p : ℕ} → Writing out i p → i < length l
-      → ys ≡ onto (bytes (k .width) (k .number (getD l i d))) (part out p) → Writing (put out p ys) (i + 1) (p + k .width)
+  pub write-turn : (d : X) {out ys : List ℕ} {i p : ℕ} → Writing k l out₀ out i p → i < length l
+      → ys ≡ onto (bytes (k .width) (k .number (getD l i d))) (part out p) → Writing k l out₀ (put out p ys) (i + 1) (p + k .width)
   write-turn d {out} {ys} {i} {p} r h e =
       let q : put out p ys ≡ onto (spread k (take (i + 1) l)) out₀ =
-      then out₀ out (spread k (take i l)) (bytes (k .width) (k .number (getD l i d))) p ys (r .is) (size i (r .count) ∙ sym (r .place)) e
-      ∙ rw (add-one i, more d i h) in
-      let s : length (spread k (take (i + 1) l)) ≡ k .width * (i + 1) = size (i + 1) (omega arith) in
+      then out₀ out (spread k (take i l)) (bytes (k .width) (k .number (getD l i d))) p ys (r .is) (size k l out₀ i (r .count) ∙ sym (r .place)) e
+      ∙ rw (add-one i, more k l out₀ d i h) in
+      let s : length (spread k (take (i + 1) l)) ≡ k .width * (i + 1) = size k l out₀ (i + 1) (omega arith) in
       let m : k .width * (i + 1) ≤ k .width * length l = mul-le-mul-left (k .width) (omega arith) in
       record {
         count = omega arith;
@@ -158,5 +160,5 @@ module _ {X : Type 0} (k : Kind X) (l : List X) (out₀ : List ℕ) where
         is = q;
       }
 
-  pub write-ended : {out : List ℕ} {i p : ℕ} → Writing out i p → length l ≤ i → out ≡ onto (spread k l) out₀
+  pub write-ended : {out : List ℕ} {i p : ℕ} → Writing k l out₀ out i p → length l ≤ i → out ≡ onto (spread k l) out₀
   write-ended {out} {i} r h = rw (take-all i l h) at (r .is)

@@ -4,8 +4,8 @@ use Prim.Native.Nat.{_-_}
 use native.Mathlib.Omega.{arith}
 use mathlib.Core.Path.{sym, _∙_}
 use borrow.Author.Tests.{not-true, not-false}
-use denote.Ref.{now}
 use lib.IntN.{pos}
+use denote.Ref.{now}
 use lib.ListN.{length, getD}
 use mir.Syntax.{w16}
 use Rattle.bigendian.specs.SignedLaws.{wide-fits, wide-is}
@@ -20,39 +20,11 @@ Inv-loop a limit i₀ i = Testing (within limit) a i
 abbrev μ-loop : tie.MeasureT-loop
 μ-loop a limit i₀ i = length a - i
 
-loop-holds : tie.Need-loop-holds Inv-loop μ-loop
-loop-holds c = test-begun _ _
-
-mul-within : tie.Need-mul-within Inv-loop μ-loop
-mul-within c = omega arith
-
-shared-slice-copy-out-within : tie.Need-shared-slice-copy-out-within Inv-loop μ-loop
-shared-slice-copy-out-within c = omega arith
-
-cast-within : tie.Need-cast-within Inv-loop μ-loop
-cast-within c = wide-fits w16 tt (getD (now (c .before .before .before .args .a)) (c .before .before .loop .i) (pos 0)) (record { sfits = c .within-arg .given })
-
-within-requires : tie.Need-within-requires Inv-loop μ-loop
-within-requires c κs = tt
-
 returns : tie.Need-returns Inv-loop μ-loop
-returns c = let z = getD (now (c .before .before .before .before .before .args .a)) (c .before .before .before .before .loop .i) (pos 0) in
-    let g = rw (wide-is w16 tt z (record { sfits = c .before .before .within-arg .given })) at (c .before .within .ensures) in
-    test-stopped _ _ (pos 0) (c .before .before .before .before .loop .inv) (c .before .before .before .loop-test .taken) (sym g ∙ not-true _ (c .if1 .taken))
-
-add-i : tie.Need-add-i Inv-loop μ-loop
-add-i c = omega arith
-
-loop-less : tie.Need-loop-less Inv-loop μ-loop
-loop-less c = omega arith
+returns c = test-stopped (pos 0) (c .before .before .before .before .loop .inv) (c .before .before .before .loop-test .taken) (sym (rw (wide-is w16 tt _ (record { sfits = c .before .before .within-arg .given })) at (c .before .within .ensures)) ∙ not-true _ (c .if1 .taken))
 
 loop-again : tie.Need-loop-again Inv-loop μ-loop
-loop-again c = let z = getD (now (c .before .before .before .before .before .args .a)) (c .before .before .before .before .loop .i) (pos 0) in
-    let g = rw (wide-is w16 tt z (record { sfits = c .before .before .within-arg .given })) at (c .before .within .ensures) in
-    test-turn _ _ (pos 0) (c .before .before .before .before .loop .inv) (c .before .before .before .loop-test .taken) (sym g ∙ not-false _ (c .if1 .left))
-
-returns-2 : tie.Need-returns-2 Inv-loop μ-loop
-returns-2 c = test-ended _ _ (c .before .loop .inv) (c .loop-test .left)
+loop-again c = test-turn (pos 0) (c .before .before .before .before .loop .inv) (c .before .before .before .loop-test .taken) (sym (rw (wide-is w16 tt _ (record { sfits = c .before .before .within-arg .given })) at (c .before .within .ensures)) ∙ not-false _ (c .if1 .left))
 
 pub all-i16-spec : {M : Type 1} → statement M
 all-i16-spec =
@@ -60,13 +32,13 @@ all-i16-spec =
     (tie.spec
     Inv-loop
     μ-loop
-    loop-holds
-    mul-within
-    shared-slice-copy-out-within
-    cast-within
-    within-requires
+    (λ c. test-begun)
+    (λ c. omega arith)
+    (λ c. omega arith)
+    (λ c. wide-fits w16 tt (getD (now (c .before .before .before .args .a)) (c .before .before .loop .i) (pos 0)) (record { sfits = c .within-arg .given }))
+    (λ c κs. tt)
     returns
-    add-i
-    loop-less
+    (λ c. omega arith)
+    (λ c. omega arith)
     loop-again
-    returns-2)
+    (λ c. test-ended (c .before .loop .inv) (c .loop-test .left)))

@@ -2,9 +2,8 @@
 -- Assumes nothing.
 use Prim.Native.Nat.{_-_}
 use native.Mathlib.Omega.{arith}
-use mathlib.Core.Path.{sym, ap, _∙_}
+use mathlib.Core.Path.{sym, _∙_}
 use borrow.Author.Tests.{not-true, not-false}
-use denote.Ref.{now}
 use lib.ListN.{length, length-set}
 use mir.Syntax.{w32}
 use mir.Facts.{toZ-ofZ}
@@ -20,57 +19,16 @@ Inv-loop s at limit out₀ i₀ p₀ out i p = Reading i32 (within limit) s at o
 abbrev μ-loop : tie.MeasureT-loop
 μ-loop s at limit out₀ i₀ p₀ out i p = length out - i
 
-loop-holds : tie.Need-loop-holds Inv-loop μ-loop
-loop-holds c = read-begun i32 (within (c .before .args .limit)) (now (c .before .args .s)) (c .before .args .at) (now (c .before .args .out)) (c .before .pre)
-
-read-i32-requires : tie.Need-read-i32-requires Inv-loop μ-loop
-read-i32-requires c κs = read-next _ _ _ _ _ (c .before .loop .inv) (c .loop-test .taken)
-
-cast-within : tie.Need-cast-within Inv-loop μ-loop
-cast-within c = wide-fits w32 tt (c .read-i32 .result) (record { sfits = c .read-i32 .ok })
-
-within-requires : tie.Need-within-requires Inv-loop μ-loop
-within-requires c κs = tt
-
-same-length : tie.Need-same-length Inv-loop μ-loop
-same-length c = omega arith
-
 returns : tie.Need-returns Inv-loop μ-loop
-returns c = let x = c .before .before .read-i32 in
-    let l = c .before .before .before .before .before .before .args .limit in
-    let g = rw (wide-is w32 tt (x .result) (record { sfits = x .ok })) at (c .before .within .ensures) in
-    read-stopped _ _ _ _ _ (c .before .before .before .before .loop .inv) (c .before .before .before .loop-test .taken) _
-    (sym (ap (within l) (x .ensures)) ∙ sym g ∙ not-true _ (c .if1 .taken))
-
-mul-x : tie.Need-mul-x Inv-loop μ-loop
-mul-x c = omega arith
-
-slice-set-from-x : tie.Need-slice-set-from-x Inv-loop μ-loop
-slice-set-from-x c = omega arith
-
-add-i : tie.Need-add-i Inv-loop μ-loop
-add-i c = omega arith
+returns c = read-stopped (c .before .before .before .before .loop .inv) (c .before .before .before .loop-test .taken) (c .before .before .read-i32 .ensures) (sym (rw (wide-is w32 tt _ (record { sfits = c .before .before .read-i32 .ok })) at (c .before .within .ensures)) ∙ not-true _ (c .if1 .taken))
 
 add-p : tie.Need-add-p Inv-loop μ-loop
-add-p c = let n = read-next _ _ _ _ _ (c .before .before .before .before .loop .inv) (c .before .before .before .loop-test .taken) in
+add-p c = let n = read-next (c .before .before .before .before .loop .inv) (c .before .before .before .loop-test .taken) in
     omega (arith, c .before .before .before .before .before .before .good)
 
-loop-less : tie.Need-loop-less Inv-loop μ-loop
-loop-less c = simp length-set (omega arith)
-
 loop-again : tie.Need-loop-again Inv-loop μ-loop
-loop-again c = let x = c .before .before .read-i32 in
-    let l = c .before .before .before .before .before .before .args .limit in
-    let g = rw (wide-is w32 tt (x .result) (record { sfits = x .ok })) at (c .before .within .ensures) in
-    rw (toZ-ofZ {w = w32} (record { sfits = x .ok }) ∙ x .ensures)
-    (read-turn _ _ _ _ _ (c .before .before .before .before .loop .inv) (c .before .before .before .loop-test .taken)
-    (sym (ap (within l) (x .ensures)) ∙ sym g ∙ not-false _ (c .if1 .left)))
-
-same-length-2 : tie.Need-same-length-2 Inv-loop μ-loop
-same-length-2 c = omega arith
-
-returns-2 : tie.Need-returns-2 Inv-loop μ-loop
-returns-2 c = read-ended _ _ _ _ _ (c .before .loop .inv) (c .loop-test .left)
+loop-again c = rw (toZ-ofZ {w = w32} (record { sfits = c .before .before .read-i32 .ok }))
+    (read-turn (c .before .before .before .before .loop .inv) (c .before .before .before .loop-test .taken) (c .before .before .read-i32 .ensures) (sym (rw (wide-is w32 tt _ (record { sfits = c .before .before .read-i32 .ok })) at (c .before .within .ensures)) ∙ not-false _ (c .if1 .left)))
 
 pub read-i32s-spec : {M : Type 1} → statement M
 read-i32s-spec =
@@ -78,17 +36,17 @@ read-i32s-spec =
     (tie.spec
     Inv-loop
     μ-loop
-    loop-holds
-    read-i32-requires
-    cast-within
-    within-requires
-    same-length
+    (λ c. read-begun (omega arith))
+    (λ c κs. read-next (c .before .loop .inv) (c .loop-test .taken))
+    (λ c. wide-fits w32 tt (c .read-i32 .result) (record { sfits = c .read-i32 .ok }))
+    (λ c κs. tt)
+    (λ c. omega arith)
     returns
-    mul-x
-    slice-set-from-x
-    add-i
+    (λ c. omega arith)
+    (λ c. omega arith)
+    (λ c. omega arith)
     add-p
-    loop-less
+    (λ c. simp length-set (omega arith))
     loop-again
-    same-length-2
-    returns-2)
+    (λ c. omega arith)
+    (λ c. read-ended (c .before .loop .inv) (c .loop-test .left)))

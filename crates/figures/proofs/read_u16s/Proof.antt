@@ -2,7 +2,6 @@
 -- Assumes nothing.
 use Prim.Native.Nat.{_-_}
 use native.Mathlib.Omega.{arith}
-use mathlib.Core.Path.{sym, ap, _∙_}
 use borrow.Author.Needs.{needs}
 use borrow.Author.Tests.{le-leb, lt-leb}
 use lib.ListN.{length, length-set}
@@ -17,52 +16,15 @@ Inv-loop s at limit out₀ i₀ p₀ out i p = Reading u16 (upTo limit) s at out
 abbrev μ-loop : tie.MeasureT-loop
 μ-loop s at limit out₀ i₀ p₀ out i p = length out - i
 
-loop-holds : tie.Need-loop-holds Inv-loop μ-loop
-loop-holds c = read-begun _ _ _ _ _ (omega arith)
-
-read-u16-requires : tie.Need-read-u16-requires Inv-loop μ-loop
-read-u16-requires c κs = read-next _ _ _ _ _ (c .before .loop .inv) (c .loop-test .taken)
-
-cast-if1 : tie.Need-cast-if1 Inv-loop μ-loop
-cast-if1 c = search needs
-
-same-length : tie.Need-same-length Inv-loop μ-loop
-same-length c = omega arith
-
 returns : tie.Need-returns Inv-loop μ-loop
-returns c = let x = c .before .read-u16 in
-    let l = c .before .before .before .before .before .before .args .limit in
-    read-stopped _ _ _ _ _ (c .before .before .before .loop .inv) (c .before .before .loop-test .taken) _
-    (sym (ap (upTo l) (x .ensures)) ∙ lt-leb (x .result) l (c .if1 .taken))
-
-mul-out : tie.Need-mul-out Inv-loop μ-loop
-mul-out c = omega arith
-
-slice-write-out : tie.Need-slice-write-out Inv-loop μ-loop
-slice-write-out c = omega arith
-
-add-i : tie.Need-add-i Inv-loop μ-loop
-add-i c = omega arith
+returns c = read-stopped (c .before .before .before .loop .inv) (c .before .before .loop-test .taken) (c .before .read-u16 .ensures) (lt-leb _ _ (c .if1 .taken))
 
 add-p : tie.Need-add-p Inv-loop μ-loop
-add-p c = let n = read-next _ _ _ _ _ (c .before .before .before .loop .inv) (c .before .before .loop-test .taken) in
+add-p c = let n = read-next (c .before .before .before .loop .inv) (c .before .before .loop-test .taken) in
     omega (arith, c .before .before .before .before .before .before .good)
 
-loop-less : tie.Need-loop-less Inv-loop μ-loop
-loop-less c = simp length-set (omega arith)
-
 loop-again : tie.Need-loop-again Inv-loop μ-loop
-loop-again c = let x = c .before .read-u16 in
-    let l = c .before .before .before .before .before .before .args .limit in
-    rw (x .ensures)
-    (read-turn _ _ _ _ _ (c .before .before .before .loop .inv) (c .before .before .loop-test .taken)
-    (sym (ap (upTo l) (x .ensures)) ∙ le-leb (x .result) l (c .if1 .left)))
-
-same-length-2 : tie.Need-same-length-2 Inv-loop μ-loop
-same-length-2 c = omega arith
-
-returns-2 : tie.Need-returns-2 Inv-loop μ-loop
-returns-2 c = read-ended _ _ _ _ _ (c .before .loop .inv) (c .loop-test .left)
+loop-again c = read-turn (c .before .before .before .loop .inv) (c .before .before .loop-test .taken) (c .before .read-u16 .ensures) (le-leb _ _ (c .if1 .left))
 
 pub read-u16s-spec : {M : Type 1} → statement M
 read-u16s-spec =
@@ -70,16 +32,16 @@ read-u16s-spec =
     (tie.spec
     Inv-loop
     μ-loop
-    loop-holds
-    read-u16-requires
-    cast-if1
-    same-length
+    (λ c. read-begun (omega arith))
+    (λ c κs. read-next (c .before .loop .inv) (c .loop-test .taken))
+    (λ c. search needs)
+    (λ c. omega arith)
     returns
-    mul-out
-    slice-write-out
-    add-i
+    (λ c. omega arith)
+    (λ c. omega arith)
+    (λ c. omega arith)
     add-p
-    loop-less
+    (λ c. simp length-set (omega arith))
     loop-again
-    same-length-2
-    returns-2)
+    (λ c. omega arith)
+    (λ c. read-ended (c .before .loop .inv) (c .loop-test .left)))

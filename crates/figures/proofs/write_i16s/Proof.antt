@@ -2,9 +2,8 @@
 -- Assumes nothing.
 use Prim.Native.Nat.{_-_}
 use native.Mathlib.Omega.{arith}
-use denote.Ref.{now}
 use lib.IntN.{pos}
-use lib.ListN.{length, getD}
+use lib.ListN.{length}
 use mir.Syntax.{w16}
 use mir.Facts.{toZ-ofZ}
 use Rattle.figures.specs.Figures.{i16}
@@ -18,50 +17,13 @@ Inv-loop out₀ a i₀ p₀ out i p = Writing i16 a out₀ out i p
 abbrev μ-loop : tie.MeasureT-loop
 μ-loop out₀ a i₀ p₀ out i p = length a - i
 
-loop-holds : tie.Need-loop-holds Inv-loop μ-loop
-loop-holds c = write-begun _ _ _ (omega arith)
-
-sub-write-i16 : tie.Need-sub-write-i16 Inv-loop μ-loop
-sub-write-i16 c = let n = write-next _ _ _ (c .before .loop .inv) (c .loop-test .taken) in
-    omega arith
-
-part-write-i16-start : tie.Need-part-write-i16-start Inv-loop μ-loop
-part-write-i16-start c = let n = write-next _ _ _ (c .before .loop .inv) (c .loop-test .taken) in
-    omega arith
-
-part-write-i16-end : tie.Need-part-write-i16-end Inv-loop μ-loop
-part-write-i16-end c = omega arith
-
-mul-write-i16 : tie.Need-mul-write-i16 Inv-loop μ-loop
-mul-write-i16 c = omega arith
-
-shared-slice-copy-out-write-i16 : tie.Need-shared-slice-copy-out-write-i16 Inv-loop μ-loop
-shared-slice-copy-out-write-i16 c = omega arith
-
-write-i16-requires : tie.Need-write-i16-requires Inv-loop μ-loop
-write-i16-requires c κs = let n = write-next _ _ _ (c .before .before .before .loop .inv) (c .before .before .loop-test .taken) in
-    omega arith
-
-add-i : tie.Need-add-i Inv-loop μ-loop
-add-i c = omega arith
-
 add-p : tie.Need-add-p Inv-loop μ-loop
-add-p c = let n = write-next _ _ _ (c .before .before .before .before .before .before .loop .inv) (c .before .before .before .before .before .loop-test .taken) in
+add-p c = let n = write-next (c .before .before .before .before .before .before .loop .inv) (c .before .before .before .before .before .loop-test .taken) in
     omega (arith, c .before .before .before .before .before .before .before .before .good, c .before .before .before .before .before .before .loop .inv .same)
 
-loop-less : tie.Need-loop-less Inv-loop μ-loop
-loop-less c = omega arith
-
 loop-again : tie.Need-loop-again Inv-loop μ-loop
-loop-again c = let z = getD (now (c .before .before .before .before .before .before .before .before .args .a)) (c .before .before .before .before .before .before .loop .i) (pos 0) in
-    let e = rw (toZ-ofZ {w = w16} {z = z} (record { sfits = c .before .before .before .write-i16-arg2 .given })) at (c .before .before .write-i16 .ensures) in
-    write-turn _ _ _ (pos 0) (c .before .before .before .before .before .before .loop .inv) (c .before .before .before .before .before .loop-test .taken) e
-
-same-length : tie.Need-same-length Inv-loop μ-loop
-same-length c = omega arith
-
-returns : tie.Need-returns Inv-loop μ-loop
-returns c = write-ended _ _ _ (c .before .loop .inv) (c .loop-test .left)
+loop-again c = let e = rw (toZ-ofZ {w = w16} (record { sfits = c .before .before .before .write-i16-arg2 .given })) at (c .before .before .write-i16 .ensures) in
+    write-turn (pos 0) (c .before .before .before .before .before .before .loop .inv) (c .before .before .before .before .before .loop-test .taken) e
 
 pub write-i16s-spec : {M : Type 1} → statement M
 write-i16s-spec =
@@ -69,16 +31,16 @@ write-i16s-spec =
     (tie.spec
     Inv-loop
     μ-loop
-    loop-holds
-    sub-write-i16
-    part-write-i16-start
-    part-write-i16-end
-    mul-write-i16
-    shared-slice-copy-out-write-i16
-    write-i16-requires
-    add-i
+    (λ c. write-begun (omega arith))
+    (λ c. let n = write-next (c .before .loop .inv) (c .loop-test .taken) in omega arith)
+    (λ c. let n = write-next (c .before .loop .inv) (c .loop-test .taken) in omega arith)
+    (λ c. omega arith)
+    (λ c. omega arith)
+    (λ c. omega arith)
+    (λ c κs. let n = write-next (c .before .before .before .loop .inv) (c .before .before .loop-test .taken) in omega arith)
+    (λ c. omega arith)
     add-p
-    loop-less
+    (λ c. omega arith)
     loop-again
-    same-length
-    returns)
+    (λ c. omega arith)
+    (λ c. write-ended (c .before .loop .inv) (c .loop-test .left)))

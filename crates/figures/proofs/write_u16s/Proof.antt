@@ -14,48 +14,12 @@ Inv-loop out₀ a i₀ p₀ out i p = Writing u16 a out₀ out i p
 abbrev μ-loop : tie.MeasureT-loop
 μ-loop out₀ a i₀ p₀ out i p = length a - i
 
-loop-holds : tie.Need-loop-holds Inv-loop μ-loop
-loop-holds c = write-begun _ _ _ (omega arith)
-
-sub-write-u16 : tie.Need-sub-write-u16 Inv-loop μ-loop
-sub-write-u16 c = let n = write-next _ _ _ (c .before .loop .inv) (c .loop-test .taken) in
-    omega arith
-
-part-write-u16-start : tie.Need-part-write-u16-start Inv-loop μ-loop
-part-write-u16-start c = let n = write-next _ _ _ (c .before .loop .inv) (c .loop-test .taken) in
-    omega arith
-
-part-write-u16-end : tie.Need-part-write-u16-end Inv-loop μ-loop
-part-write-u16-end c = omega arith
-
-mul-write-u16 : tie.Need-mul-write-u16 Inv-loop μ-loop
-mul-write-u16 c = omega arith
-
-shared-slice-read-write-u16 : tie.Need-shared-slice-read-write-u16 Inv-loop μ-loop
-shared-slice-read-write-u16 c = omega arith
-
-write-u16-requires : tie.Need-write-u16-requires Inv-loop μ-loop
-write-u16-requires c κs = let n = write-next _ _ _ (c .before .before .before .loop .inv) (c .before .before .loop-test .taken) in
-    omega arith
-
-add-i : tie.Need-add-i Inv-loop μ-loop
-add-i c = omega arith
-
 add-p : tie.Need-add-p Inv-loop μ-loop
-add-p c = let n = write-next _ _ _ (c .before .before .before .before .before .before .loop .inv) (c .before .before .before .before .before .loop-test .taken) in
+add-p c = let n = write-next (c .before .before .before .before .before .before .loop .inv) (c .before .before .before .before .before .loop-test .taken) in
     omega (arith, c .before .before .before .before .before .before .before .before .before .good, c .before .before .before .before .before .before .loop .inv .same)
 
-loop-less : tie.Need-loop-less Inv-loop μ-loop
-loop-less c = omega arith
-
 loop-again : tie.Need-loop-again Inv-loop μ-loop
-loop-again c = write-turn _ _ _ 0 (c .before .before .before .before .before .before .loop .inv) (c .before .before .before .before .before .loop-test .taken) (c .before .before .write-u16 .ensures)
-
-same-length : tie.Need-same-length Inv-loop μ-loop
-same-length c = omega arith
-
-returns : tie.Need-returns Inv-loop μ-loop
-returns c = write-ended _ _ _ (c .before .loop .inv) (c .loop-test .left)
+loop-again c = write-turn 0 (c .before .before .before .before .before .before .loop .inv) (c .before .before .before .before .before .loop-test .taken) (c .before .before .write-u16 .ensures)
 
 pub write-u16s-spec : {M : Type 1} → statement M
 write-u16s-spec =
@@ -63,16 +27,16 @@ write-u16s-spec =
     (tie.spec
     Inv-loop
     μ-loop
-    loop-holds
-    sub-write-u16
-    part-write-u16-start
-    part-write-u16-end
-    mul-write-u16
-    shared-slice-read-write-u16
-    write-u16-requires
-    add-i
+    (λ c. write-begun (omega arith))
+    (λ c. let n = write-next (c .before .loop .inv) (c .loop-test .taken) in omega arith)
+    (λ c. let n = write-next (c .before .loop .inv) (c .loop-test .taken) in omega arith)
+    (λ c. omega arith)
+    (λ c. omega arith)
+    (λ c. omega arith)
+    (λ c κs. let n = write-next (c .before .before .before .loop .inv) (c .before .before .loop-test .taken) in omega arith)
+    (λ c. omega arith)
     add-p
-    loop-less
+    (λ c. omega arith)
     loop-again
-    same-length
-    returns)
+    (λ c. omega arith)
+    (λ c. write-ended (c .before .loop .inv) (c .loop-test .left)))
