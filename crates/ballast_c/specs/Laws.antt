@@ -6,12 +6,7 @@ use native.Mathlib.Omega.{arith}
 use borrow.Author.Tests.{le-leb, lt-leb}
 use lib.ListN.{length, take, drop, length-append, length-drop, take-append-drop}
 use lib.Seq.{drop-append-le, length-take-le}
-use lib.IntN.{ℤ, pos, negℤ, _-ℤ_}
-use mir.Syntax.{w64}
-use mir.Val.{SFits}
-use Rattle.integers.specs.Diff.{sub-parts, neg-parts}
-use Rattle.integers.specs.Order.{ints}
-use Rattle.integers.specs.Size.{fits, natAbs-subℤ}
+use lib.IntN.{ℤ, pos}
 use Rattle.outcome.specs.declared.Refusal.{Refusal}
 use Rattle.outcome.specs.declared.Refusal.the-variants.{BufferTooShort}
 use Rattle.outcome.specs.declared.Outcome.{Outcome}
@@ -33,12 +28,6 @@ use Rattle.ballast_c.specs.Result.{number, Small, Returned, number-count
 use Rattle.ballast_c.specs.Calls.{tanks, text-call, Judged}
 
 -- ---- the result number
-
-pub below-zero : (k : ℕ) → pos 0 -ℤ pos k ≡ negℤ (pos k)
-below-zero k = omega (arith, ints, sub-parts (pos 0) (pos k), neg-parts (pos k))
-
-pub below-zero-fits : (k : ℕ) → k < 2 ^ 8 → SFits w64 (pos 0 -ℤ pos k)
-below-zero-fits k h = omega (arith, fits, natAbs-subℤ (pos 0) (pos k))
 
 pub small-refused : (r : Refusal) → Small (Refused r)
 small-refused r = record { count = λ m e. let z : _≡_ {A = ℕ} 0 1 = cc in absurd (omega arith) }

@@ -3,16 +3,19 @@
 use mathlib.Core.Path.{_≡_, refl, sym, ap, _∙_, subst}
 use mathlib.Core.Logic.{_≢_}
 use mathlib.Core.Bool.{true, false, not}
-use Prim.Native.Nat.{suc, _*_, _/_, _%_, _≤_, _<_}
+use Prim.Native.Nat.{ℕ, suc, _*_, _-_, _/_, _%_, _^_, _≤_, _<_}
+use native.Mathlib.Omega.{arith}
 use native.Mathlib.Nat.{div-add-mod', mod-lt, div-le-self, pos-of-ne-zero}
 use lib.Dec.{T, T-not, eqb, eqb→eq, eqb-refl}
-use lib.IntN.{ℤ, pos, negsuc, negℤ, natAbs, _+ℤ_, _*ℤ_, negℤ-+ℤ}
+use lib.IntN.{ℤ, pos, negsuc, negℤ, natAbs, _+ℤ_, _-ℤ_, _*ℤ_, negℤ-+ℤ}
 use lib.Signed.{quotZ, remZ}
 use mir.Syntax.{Width}
-use mir.Val.{SFits, ofZ, toZ}
+use mir.Val.{SFits, ofZ, toZ, hbits}
 use mir.Facts.{toZ-ofZ}
-use Rattle.integers.specs.Ring.{negℤ-*ℤ, *ℤ-negℤ, negℤ-*ℤ-negℤ}
-use Rattle.integers.specs.Size.{natAbs-negℤ}
+use Rattle.integers.specs.Diff.{sub-parts, neg-parts}
+use Rattle.integers.specs.Order.{ints}
+use Rattle.integers.specs.Ring.{negℤ-*ℤ, *ℤ-negℤ, negℤ-*ℤ-negℤ, zero-subℤ}
+use Rattle.integers.specs.Size.{natAbs-negℤ, sfits-negℤ}
 
 -- ---- `==`
 
@@ -30,6 +33,16 @@ other-bits w x y t e =
 -- a divisor that is not 0, as `/` asks it
 pub bits-pos : (w : Width) (y : ℤ) → SFits w y → SFits w (pos 0) → y ≢ pos 0 → 0 < ofZ w y
 bits-pos w y f g n = pos-of-ne-zero (λ e. n (ofZ-inj w y (pos 0) f g e))
+
+-- ---- `-x`
+
+-- the least number of a width is reached without forming its size: minus one less, less one
+pub minus-less : (m : ℕ) → 0 < m → pos 0 -ℤ pos (m - 1) -ℤ pos 1 ≡ negℤ (pos m)
+minus-less m h =
+    omega (arith, ints, sub-parts (pos 0) (pos (m - 1)), sub-parts (pos 0 -ℤ pos (m - 1)) (pos 1), neg-parts (pos m))
+
+pub minus-fits : {w : Width} (m : ℕ) → m ≤ 2 ^ hbits w → SFits w (pos 0 -ℤ pos m)
+minus-fits m h = rw (zero-subℤ (pos m)) (sfits-negℤ m h)
 
 -- ---- `/` and `%`
 

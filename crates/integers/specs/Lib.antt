@@ -6,4 +6,5 @@ pub mod Poly
 pub mod Sums
 pub mod Tables
 pub mod Code
+pub mod Signed
 pub mod Recipes

@@ -83,6 +83,9 @@ pub sfits-negℤ : {w : Width} (m : ℕ) → m ≤ 2 ^ hbits w → SFits w (neg�
 sfits-negℤ {w} zero h = record { sfits = pow-pos (hbits w) }
 sfits-negℤ (suc m) h = record { sfits = h }
 
+pub size-negℤ : {w : Width} (m : ℕ) → SFits w (negℤ (pos m)) → m ≤ 2 ^ hbits w
+size-negℤ {w} m f = omega (arith, size-sfits f, natAbs-negℤ (pos m))
+
 -- what fits a width fits a wider one: `widen tt f`
 pub widen : {v w : Width} {z : ℤ} → T (leb (hbits v) (hbits w)) → SFits v z → SFits w z
 widen {v} {w} {z} t f = record { sfits = lt-of-lt-of-le (f .sfits) (pow-mono (leb→le (hbits v) (hbits w) t)) }

@@ -52,6 +52,15 @@ pub sum-pos : (n : ℕ) (f : ℕ → ℕ) → sum n (λ j. pos (f j)) ≡ pos (t
 sum-pos zero f = refl
 sum-pos (suc n) f = ap (λ x. x +ℤ pos (f n)) (sum-pos n f)
 
+-- nothing at each place
+pub sum-none : (n : ℕ) (f : ℕ → ℤ) → ((j : ℕ) → j < n → f j ≡ pos 0) → sum n f ≡ pos 0
+sum-none zero f h = refl
+sum-none (suc n) f h = ap₂ (λ x y. x +ℤ y) (sum-none n f (λ j l. h j (omega arith))) (h n (omega arith))
+
+pub total-none : (n : ℕ) (f : ℕ → ℕ) → ((j : ℕ) → j < n → f j ≡ 0) → total n f ≡ 0
+total-none zero f h = refl
+total-none (suc n) f h = ap₂ (λ x y. x + y) (total-none n f (λ j l. h j (omega arith))) (h n (omega arith))
+
 -- ---- sizes
 
 -- where v f(j) ≤ w g(j) at each place, the same holds of the sums

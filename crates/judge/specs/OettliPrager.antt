@@ -6,39 +6,37 @@ use mathlib.Core.List.{[], _∷_}
 use Prim.Native.Nat.{ℕ, zero, suc, _+_, _*_, _≤_, _<_}
 use native.Mathlib.Nat.{le-of-mul-le-mul-left, mul-le-mul-left, mul-le-mul-right, le-trans}
 use native.Mathlib.Omega.{arith}
-use lib.IntN.{ℤ, pos, negsuc, negℤ, natAbs, _+ℤ_, _-ℤ_, _*ℤ_}
+use lib.IntN.{ℤ, pos, negsuc, negℤ, natAbs, _+ℤ_, _-ℤ_, _*ℤ_, zero-*ℤ}
 use Rattle.integers.specs.Poly.{poly, poly-from, terms}
 use Rattle.integers.specs.Ring.{negℤ-*ℤ-negℤ}
 use Rattle.integers.specs.Size.{natAbs-negℤ, natAbs-*ℤ, natAbs-subℤ, natAbs-zero}
-use Rattle.integers.specs.Sums.{sum, total, sum-cong, sum-add, sum-scale, sum-pos, sum-size, total-within}
+use Rattle.integers.specs.Sums.{sum, total, sum-cong, sum-none, sum-add, sum-scale, sum-pos, sum-size, total-within}
 use Rattle.judge.specs.System.{Row, Trial, residual, reach}
 use Rattle.judge.specs.Changes.{Changes, Solve, Keep, Under, Possible, PossibleUnder, turned, yielded}
 
 -- ---- the sum of a changed row
 
-spread : (q w a y : ℤ) → (q *ℤ w +ℤ a) *ℤ y ≡ q *ℤ (w *ℤ y) +ℤ a *ℤ y
-spread q w a y = poly (q ∷ w ∷ a ∷ y ∷ []) (λ v. search terms depth 20) refl
-
 changed-sum : (r : Row) (t : Trial) (k : Changes)
     → sum (t .n) (λ j. (pos (k .q) *ℤ r .A j +ℤ k .a j) *ℤ t .Y j)
     ≡ pos (k .q) *ℤ sum (t .n) (λ j. r .A j *ℤ t .Y j) +ℤ sum (t .n) (λ j. k .a j *ℤ t .Y j)
 changed-sum r t k =
-    sum-cong (t .n) _ _ (λ j l. spread (pos (k .q)) (r .A j) (k .a j) (t .Y j))
+    sum-cong (t .n) _ _ (λ j l. poly (pos (k .q) ∷ r .A j ∷ k .a j ∷ t .Y j ∷ []) (λ v. search terms depth 20) refl)
     ∙ sum-add (t .n) (λ j. pos (k .q) *ℤ (r .A j *ℤ t .Y j)) (λ j. k .a j *ℤ t .Y j)
     ∙ ap (λ x. x +ℤ sum (t .n) (λ j. k .a j *ℤ t .Y j)) (sum-scale (pos (k .q)) (t .n) (λ j. r .A j *ℤ t .Y j))
 
 -- ---- changes need |R| within reach
 
--- q R = Σ a(j) Y(j) − D c, from what makes the changed row exact
-scaled : (q d S s b c : ℤ) → q *ℤ S +ℤ s ≡ d *ℤ (q *ℤ b +ℤ c) → q *ℤ (d *ℤ b -ℤ S) ≡ s -ℤ d *ℤ c
-scaled q d S s b c e =
-    poly-from (pos 1) e (poly (q ∷ d ∷ S ∷ s ∷ b ∷ c ∷ []) (λ w. search terms depth 20) refl)
-
 module _ (r : Row) (t : Trial) (k : Changes) where
   size : Solve r t k → k .q * natAbs (residual r t) ≤ natAbs (sum (t .n) (λ j. k .a j *ℤ t .Y j)) + t .D * natAbs (k .c)
   unfolding residual
   size h =
-      let e = scaled (pos (k .q)) (pos (t .D)) (sum (t .n) (λ j. r .A j *ℤ t .Y j)) (sum (t .n) (λ j. k .a j *ℤ t .Y j)) (r .b) (k .c) (sym (changed-sum r t k) ∙ h .exact) in
+      let q = pos (k .q) in
+      let d = pos (t .D) in
+      let S = sum (t .n) (λ j. r .A j *ℤ t .Y j) in
+      let s = sum (t .n) (λ j. k .a j *ℤ t .Y j) in
+      -- q R = Σ a(j) Y(j) − D c, from what makes the changed row exact
+      let e : q *ℤ residual r t ≡ s -ℤ d *ℤ k .c =
+      poly-from (pos 1) (sym (changed-sum r t k) ∙ h .exact) (poly (q ∷ d ∷ S ∷ s ∷ r .b ∷ k .c ∷ []) (λ w. search terms depth 20) refl) in
       omega (
         arith,
         natAbs-*ℤ (pos (k .q)) (residual r t),
@@ -81,26 +79,19 @@ turned-times (negsuc y) x = negℤ-*ℤ-negℤ x (pos (suc y))
 yielded-sum : (r : Row) (t : Trial) (R : ℤ)
     → sum (t .n) (λ j. turned (t .Y j) (pos (r .E j) *ℤ R) *ℤ t .Y j) ≡ R *ℤ pos (total (t .n) (λ j. r .E j * natAbs (t .Y j)))
 yielded-sum r t R =
-    sum-cong (t .n) _ _ (λ j l. turned-times (t .Y j) (pos (r .E j) *ℤ R) ∙ regroup (r .E j) (natAbs (t .Y j)))
+    sum-cong (t .n) _ _
+    (λ j l. turned-times (t .Y j) (pos (r .E j) *ℤ R) ∙ poly (R ∷ pos (r .E j) ∷ pos (natAbs (t .Y j)) ∷ []) (λ w. search terms depth 20) refl)
     ∙ sum-scale R (t .n) (λ j. pos (r .E j * natAbs (t .Y j)))
     ∙ ap (λ x. R *ℤ x) (sum-pos (t .n) (λ j. r .E j * natAbs (t .Y j)))
-  where
-    regroup : (e n : ℕ) → pos e *ℤ R *ℤ pos n ≡ R *ℤ pos (e * n)
-    regroup e n = poly (R ∷ pos e ∷ pos n ∷ []) (λ w. search terms depth 20) refl
-
--- q S + R G = D (q b − f R), where q = D f + G and R = D b − S
-balanced : (D f G : ℕ) (b S : ℤ)
-    → pos (D * f + G) *ℤ S +ℤ (pos D *ℤ b -ℤ S) *ℤ pos G ≡ pos D *ℤ (pos (D * f + G) *ℤ b +ℤ negℤ (pos f *ℤ (pos D *ℤ b -ℤ S)))
-balanced D f G b S = poly (pos D ∷ pos f ∷ pos G ∷ b ∷ S ∷ []) (λ w. search terms depth 20) refl
-
--- no change at all, where R is 0
-unchanged : (d S s b : ℤ) → d *ℤ b -ℤ S ≡ pos 0 → s ≡ pos 0 → pos 1 *ℤ S +ℤ s ≡ d *ℤ (pos 1 *ℤ b +ℤ pos 0)
-unchanged d S s b e z =
-    ap (λ x. pos 1 *ℤ S +ℤ x) z
-    ∙ poly-from (pos 1) e (poly (d ∷ S ∷ b ∷ []) (λ w. search terms depth 20) refl)
 
 module _ (r : Row) (t : Trial) where
-  -- by the value of the reach
+  abbrev S′ : ℤ
+  S′ = sum (t .n) (λ j. r .A j *ℤ t .Y j)
+
+  abbrev G′ : ℕ
+  G′ = total (t .n) (λ j. r .E j * natAbs (t .Y j))
+
+  -- by the value of the reach: where it is 0 nothing changes; elsewhere q S + R G = D (q b − f R), with q = D f + G and R = D b − S
   solve-at : (T : ℕ) → reach r t ≡ T → (T ≡ 0 → residual r t ≡ pos 0) → Solve r t (yielded r t (residual r t) T)
   unfolding residual reach
   solve-at zero e z =
@@ -108,16 +99,16 @@ module _ (r : Row) (t : Trial) where
         positive = omega arith;
         exact =
             changed-sum r t (yielded r t (residual r t) 0)
-            ∙ unchanged (pos (t .D)) (sum (t .n) (λ j. r .A j *ℤ t .Y j)) (sum (t .n) (λ j. pos 0 *ℤ t .Y j)) (r .b) (z refl)
-            (sum-scale (pos 0) (t .n) (t .Y) ∙ poly (sum (t .n) (t .Y) ∷ []) (λ w. search terms depth 20) refl);
+            ∙ ap (λ x. pos 1 *ℤ S′ +ℤ x) (sum-none (t .n) _ (λ j l. zero-*ℤ (t .Y j)))
+            ∙ poly-from (pos 1) (z refl) (poly (pos (t .D) ∷ S′ ∷ r .b ∷ []) (λ w. search terms depth 20) refl);
       }
   solve-at (suc T) e z =
       record {
         positive = omega arith;
         exact =
             changed-sum r t (yielded r t (residual r t) (suc T))
-            ∙ ap (λ x. pos (suc T) *ℤ sum (t .n) (λ j. r .A j *ℤ t .Y j) +ℤ x) (yielded-sum r t (residual r t))
-            ∙ (rw (← e) (balanced (t .D) (r .f) (total (t .n) (λ j. r .E j * natAbs (t .Y j))) (r .b) (sum (t .n) (λ j. r .A j *ℤ t .Y j))));
+            ∙ ap (λ x. pos (suc T) *ℤ S′ +ℤ x) (yielded-sum r t (residual r t))
+            ∙ rw (← e) (poly (pos (t .D) ∷ pos (r .f) ∷ pos G′ ∷ r .b ∷ S′ ∷ []) (λ w. search terms depth 20) refl);
       }
 
   -- a residual within reach is zero where the reach is

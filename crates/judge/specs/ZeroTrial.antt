@@ -1,13 +1,12 @@
 -- The zero trial leaves D b of each row, and its reach is D f, whatever the coefficients and their tolerances are. Assumes nothing.
 use mathlib.Core.List.{List}
 use mathlib.Core.Path.{_≡_, refl, sym, ap, fun-ext, _∙_}
-use Prim.Native.Nat.{ℕ, _*_, _≤_}
-use native.Mathlib.Omega.{arith}
+use Prim.Native.Nat.{ℕ, _+_, _*_, _≤_}
+use native.Mathlib.Nat.{add-zero, mul-zero}
 use lib.ListN.{getD}
-use lib.IntN.{ℤ, pos, natAbs, _-ℤ_, _*ℤ_}
+use lib.IntN.{ℤ, pos, natAbs, _-ℤ_, _*ℤ_, *ℤ-zero}
 use Rattle.integers.specs.Ring.{subℤ-zero}
-use Rattle.integers.specs.Size.{natAbs-*ℤ, natAbs-zero}
-use Rattle.integers.specs.Sums.{sum, total, sum-bound, total-bound}
+use Rattle.integers.specs.Sums.{sum-none, total-none}
 use Rattle.integers.specs.Tables.{filled, all-table}
 use Rattle.judge.specs.System.{Row, System, row, residual, reach, zero-trial}
 use Rattle.judge.specs.Judgement.{within, first-not, residuals, reaches, standing}
@@ -17,32 +16,14 @@ module _ (n D : ℕ) where
   figure : (j : ℕ) → zero-trial n D .Y j ≡ pos 0
   figure = all-table (λ (y : ℤ). y ≡ pos 0) (pos 0) refl 8 (λ _. pos 0) (λ i. refl)
 
-  size : (j : ℕ) → natAbs (zero-trial n D .Y j) ≡ 0
-  size j = ap natAbs (figure j)
-
-  -- every product is 0, and so is their sum
-  sum-zero : (r : Row) → sum n (λ j. r .A j *ℤ zero-trial n D .Y j) ≡ pos 0
-  sum-zero r =
-      natAbs-zero _
-      (omega (
-        arith,
-        sum-bound n 0 (λ j. r .A j *ℤ zero-trial n D .Y j) (λ j l. omega (arith, natAbs-*ℤ (r .A j) (zero-trial n D .Y j), ap (λ y. natAbs (r .A j) * y) (size j))),
-      ))
-
-  total-zero : (r : Row) → total n (λ j. r .E j * natAbs (zero-trial n D .Y j)) ≡ 0
-  total-zero r =
-      omega (
-        arith,
-        total-bound n 0 (λ j. r .E j * natAbs (zero-trial n D .Y j)) (λ j l. omega (arith, ap (λ y. r .E j * y) (size j))),
-      )
-
   residual-zero : (r : Row) → residual r (zero-trial n D) ≡ pos D *ℤ r .b
   unfolding residual
-  residual-zero r = ap (λ x. pos D *ℤ r .b -ℤ x) (sum-zero r) ∙ subℤ-zero (pos D *ℤ r .b)
+  residual-zero r =
+      ap (λ x. pos D *ℤ r .b -ℤ x) (sum-none n _ (λ j l. ap (λ y. r .A j *ℤ y) (figure j) ∙ *ℤ-zero (r .A j))) ∙ subℤ-zero (pos D *ℤ r .b)
 
   reach-zero : (r : Row) → reach r (zero-trial n D) ≡ D * r .f
   unfolding reach
-  reach-zero r = omega (arith, total-zero r)
+  reach-zero r = ap (λ x. D * r .f + x) (total-none n _ (λ j l. ap (λ y. r .E j * natAbs y) (figure j) ∙ mul-zero (r .E j))) ∙ add-zero (D * r .f)
 
 -- in eight places: D b and D f of each row
 abbrev pub scaled-sides : ℕ → ℕ → List ℤ → List ℤ

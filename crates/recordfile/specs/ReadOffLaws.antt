@@ -58,10 +58,6 @@ flag-eqb : (b : Bool) → eqb (flag b) 1 ≡ b
 flag-eqb true = refl
 flag-eqb false = refl
 
--- the bits of a number that fits have its width's bytes
-bits-below : (w : Width) (z : ℤ) → SFits w z → ofZ w z < 2 ^ bits w
-bits-below w z f = fits-ofZ f .fits
-
 regroup : (a b c d e : List ℕ) → (((a ++ b) ++ c) ++ d) ++ e ≡ (a ++ b) ++ (c ++ (d ++ e))
 regroup a b c d e = simp append-assoc
 
@@ -137,7 +133,7 @@ module _ (n rounds : ℕ) (Y : List ℤ) (j : Judgement) where
       ∙ number-behind 4 6 (3 + (4 * i + 0)) W (header 17 (length figures) ++ (figures ++ rest)) (length-verdict (j .met) (j .none) (j .unmet) rounds (j .decides) n Y (j .residuals) (j .reaches))
       ∙ number-behind 4 3 (4 * i + 0) (header 17 (length figures)) (figures ++ rest) (length-header 17 (length figures))
       ∙ piece-number 4 4 i 0 piece (figures ++ rest) p
-      ∙ number-front 4 (ofZ w32 (getD Y i (pos 0))) (p .behind) (bits-below w32 (getD Y i (pos 0)) f))
+      ∙ number-front 4 (ofZ w32 (getD Y i (pos 0))) (p .behind) (fits-ofZ {w = w32} f .fits))
       ∙ toZ-ofZ f
 
   -- ---- field 12
@@ -165,7 +161,7 @@ module _ (n rounds : ℕ) (Y : List ℤ) (j : Judgement) where
         (ap (λ m. number 8 m (recordOf n rounds Y j)) e
         ∙ row-number 0
         ∙ ap (number 8 0) (append-assoc (bytes 8 (ofZ w64 (R i))) (bytes 8 (T i)) (here .behind))
-        ∙ number-front 8 (ofZ w64 (R i)) (bytes 8 (T i) ++ here .behind) (bits-below w64 (R i) f))
+        ∙ number-front 8 (ofZ w64 (R i)) (bytes 8 (T i) ++ here .behind) (fits-ofZ {w = w64} f .fits))
         ∙ toZ-ofZ f
 
     pub recorded-reach : T i < 256 ^ 8 → recordedFinding n (recordOf n rounds Y j) .T i ≡ T i

@@ -6,9 +6,10 @@ use lib.IntN.{pos, negℤ}
 use mir.Syntax.{w64}
 use mir.Facts.{toZ-ofZ, toZ-pos}
 use borrow.Author.Needs.{needs}
+use Rattle.integers.specs.Ring.{zero-subℤ}
 use Rattle.integers.specs.Size.{sfits-size, sfits-negℤ}
+use Rattle.integers.specs.Code.{minus-fits}
 use Rattle.ballast_c.specs.Result.{number}
-use Rattle.ballast_c.specs.Laws.{below-zero, below-zero-fits}
 use Rattle.ballast_c.proofs.result.Statement.{statement}
 use Rattle.ballast_c.proofs.result.Tie as tie
 
@@ -31,7 +32,7 @@ low : (c : tie.After-number) → c .number .result < 2 ^ 63
 low c = omega (arith, c .number .ok)
 
 sub-result : tie.Need-sub-result
-sub-result c = simp (toZ-pos w64 (low c)) (below-zero-fits (c .number .result) (c .number .ok))
+sub-result c = simp (toZ-pos w64 (low c)) (minus-fits (c .number .result) (omega (arith, c .number .ok)))
 
 returns : tie.Need-returns
 returns c = simp (toZ-pos w64 (c .before .before .before .pre .count _ (c .before .outcome .given .1))) (ap number (sym (c .before .outcome .given .1)))
@@ -39,7 +40,7 @@ returns c = simp (toZ-pos w64 (c .before .before .before .pre .count _ (c .befor
 returns-2 : tie.Need-returns-2
 returns-2 c =
     let h = sfits-negℤ {w = w64} (c .number .result) (omega (arith, c .number .ok)) in
-    simp (toZ-pos w64 (low c), below-zero (c .number .result), toZ-ofZ h) (ap (λ k. negℤ (pos k)) (c .number .ensures) ∙ ap number (sym (c .before .before .outcome2 .given .1)))
+    simp (toZ-pos w64 (low c), zero-subℤ (pos (c .number .result)), toZ-ofZ h) (ap (λ k. negℤ (pos k)) (c .number .ensures) ∙ ap number (sym (c .before .before .outcome2 .given .1)))
 
 pub result-spec : {M : Type 1} → statement M
 result-spec =

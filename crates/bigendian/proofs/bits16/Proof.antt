@@ -2,7 +2,7 @@
 -- Assumes nothing.
 use mir.Facts.{fits-ofZ}
 use mir.Syntax.{w16}
-use Rattle.bigendian.specs.SignedLaws.{below-zero, from-zero}
+use Rattle.integers.specs.Signed.{below-zero, from-zero}
 use native.Mathlib.Omega.{arith}
 use Rattle.bigendian.proofs.bits16.Statement.{statement}
 use Rattle.bigendian.proofs.bits16.Tie as tie

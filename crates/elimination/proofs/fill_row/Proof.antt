@@ -8,9 +8,10 @@ use native.Mathlib.Omega.{arith}
 use lib.ListN.{getD, set}
 use lib.IntN.{ℤ, pos, natAbs, _*ℤ_}
 use mir.Syntax.{w16, w64}
-use mir.Val.{SFits, toZ, ofZ}
+use mir.Val.{SFits}
 use mir.Facts.{toZ-ofZ}
 use Rattle.integers.specs.Size.{natAbs-*ℤ, size-sfits, sfits-size}
+use Rattle.integers.specs.Signed.{wide-fits, wide-is}
 use Rattle.elimination.specs.Matrix.{fill, Within}
 use Rattle.elimination.specs.Steps.{scaled, working-row}
 use Rattle.elimination.specs.Conditions.{bound}
@@ -38,12 +39,6 @@ module _ (z : ℤ) (f : SFits w16 z) where
 
   product : SFits w64 (pos 256 *ℤ z)
   product = sfits-size (omega (arith, size))
-
-  wide : SFits w64 z
-  wide = sfits-size (omega (arith, size-sfits f))
-
-  read : toZ w64 (ofZ w64 (toZ w16 (ofZ w16 z))) ≡ z
-  read = rw (toZ-ofZ f) (toZ-ofZ wide)
 
 loop-holds : tie.Need-loop-holds Inv-loop μ-loop
 loop-holds c = (
@@ -78,10 +73,10 @@ module _ (c : tie.After-row Inv-loop μ-loop) where
   range = record { sfits = c .row .given }
 
 cast-row : tie.Need-cast-row Inv-loop μ-loop
-cast-row c = rw (toZ-ofZ (range c)) (wide (figure c) (range c))
+cast-row c = wide-fits w16 tt (figure c) (range c)
 
 mul-row-3 : tie.Need-mul-row-3 Inv-loop μ-loop
-mul-row-3 c = rw (read (figure c) (range c)) (product (figure c) (range c))
+mul-row-3 c = rw (wide-is w16 tt (figure c) (range c)) (product (figure c) (range c))
 
 mul-t15 : tie.Need-mul-t15 Inv-loop μ-loop
 mul-t15 c = omega arith
@@ -101,7 +96,7 @@ loop-again c =
     let s = d .before .args in
     let z = figure c in
     let f = range c in
-    rw (read z f, toZ-ofZ (product z f)) (
+    rw (wide-is w16 tt z f, toZ-ofZ (product z f)) (
       omega arith,
       all-set (λ (x : ℤ). natAbs x ≤ bound 0) (pos 0) (d .loop .row) (d .loop .j) (pos 256 *ℤ z) (size z f) (d .loop .inv .1),
       ap (λ (l : List ℤ). set l (d .loop .j) (pos 256 *ℤ z)) (d .loop .inv .2)

@@ -8,7 +8,7 @@ use lib.IntN.{pos}
 use denote.Ref.{now}
 use lib.ListN.{length, getD}
 use mir.Syntax.{w32}
-use Rattle.bigendian.specs.SignedLaws.{wide-fits, wide-is}
+use Rattle.integers.specs.Signed.{wide-fits, wide-is}
 use Rattle.figures.specs.Figures.{within}
 use Rattle.figures.specs.LoopLaws.{Testing, test-begun, test-stopped, test-turn, test-ended}
 use Rattle.figures.proofs.all_i32.Statement.{statement}

@@ -7,7 +7,7 @@ use borrow.Author.Tests.{not-true, not-false}
 use lib.ListN.{length, length-set}
 use mir.Syntax.{w16}
 use mir.Facts.{toZ-ofZ}
-use Rattle.bigendian.specs.SignedLaws.{wide-fits, wide-is}
+use Rattle.integers.specs.Signed.{wide-fits, wide-is}
 use Rattle.figures.specs.Figures.{i16, within}
 use Rattle.figures.specs.LoopLaws.{Reading, read-begun, read-next, read-stopped, read-turn, read-ended}
 use Rattle.figures.proofs.read_i16s.Statement.{statement}

@@ -9,7 +9,8 @@ use mir.Syntax.{w16, w32, w64}
 use mir.Val.{SFits, toZ, ofZ}
 use mir.Facts.{toZ-ofZ}
 use borrow.Author.Needs.{needs}
-use Rattle.integers.specs.Size.{at-most, bounds, sfits-by, size-by, size-sfits, widen, natAbs-+ℤ}
+use Rattle.integers.specs.Size.{at-most, bounds, size-by, size-sfits, sfits-size, natAbs-+ℤ, natAbs-subℤ}
+use Rattle.integers.specs.Signed.{wide-fits, wide-is}
 use Rattle.integers.specs.Sums.{sum, sum-more}
 use Rattle.judge.proofs.row_residual.Statement.{statement}
 use Rattle.judge.proofs.row_residual.Tie as tie
@@ -23,31 +24,7 @@ Inv-loop n from scale coefficients right-side trial s₀ j₀ s j =
 abbrev μ-loop : tie.MeasureT-loop
 μ-loop n from scale coefficients right-side trial s₀ j₀ s j = n - j
 
--- one turn, in ℤ
-module _ (a y s : ℤ) (j : ℕ) (l : j < 8) (fa : SFits w16 a) (fy : SFits w32 y) (fs : natAbs s ≤ j * 2 ^ 46) where
-  abbrev ba : natAbs a ≤ 2 ^ 15
-  ba = size-sfits fa
-
-  abbrev by : natAbs y ≤ 2 ^ 31
-  by = size-sfits fy
-
-  product : natAbs (a *ℤ y) ≤ 2 ^ 46
-  product = let x = at-most a (2 ^ 15) ba in let z = at-most y (2 ^ 31) by in size-by (a *ℤ y) (search bounds) tt
-
-  turn : SFits w64 a × SFits w64 y × SFits w64 (a *ℤ y) × SFits w64 (s +ℤ a *ℤ y)
-  turn =
-      let x = at-most a (2 ^ 15) ba in
-      let z = at-most y (2 ^ 31) by in
-      let t = at-most s (2 ^ 50) (omega arith) in
-      (sfits-by (search bounds) tt, sfits-by (search bounds) tt, sfits-by (search bounds) tt, sfits-by (search bounds) tt)
-
-  grown : natAbs (s +ℤ a *ℤ y) ≤ (j + 1) * 2 ^ 46
-  grown = omega (arith, natAbs-+ℤ s (a *ℤ y), product)
-
--- the last operation
-last : (b s : ℤ) → natAbs b ≤ 2 ^ 47 → natAbs s ≤ 2 ^ 49 → SFits w64 (b -ℤ s)
-last b s fb fs = let x = at-most b (2 ^ 47) fb in let t = at-most s (2 ^ 49) fs in sfits-by (search bounds) tt
-
+-- one turn
 module _ (c : tie.After-y Inv-loop μ-loop) where
   abbrev start : tie.Start Inv-loop μ-loop
   start = c .before .before .before .before
@@ -70,11 +47,20 @@ module _ (c : tie.After-y Inv-loop μ-loop) where
   abbrev s′ : ℤ
   s′ = toZ w64 (c .before .before .before .loop .s)
 
-  turn′ : SFits w64 a′ × SFits w64 y′ × SFits w64 (a′ *ℤ y′) × SFits w64 (s′ +ℤ a′ *ℤ y′)
-  turn′ = turn a′ y′ s′ j′ (omega arith) fa′ fy′ (c .before .before .before .loop .inv .2)
+  product : natAbs (a′ *ℤ y′) ≤ 2 ^ 46
+  product =
+      let x = at-most a′ (2 ^ 15) (size-sfits fa′) in
+      let z = at-most y′ (2 ^ 31) (size-sfits fy′) in
+      size-by (a′ *ℤ y′) (search bounds) tt
 
-  grown′ : natAbs (s′ +ℤ a′ *ℤ y′) ≤ (j′ + 1) * 2 ^ 46
-  grown′ = grown a′ y′ s′ j′ (omega arith) fa′ fy′ (c .before .before .before .loop .inv .2)
+  grown : natAbs (s′ +ℤ a′ *ℤ y′) ≤ (j′ + 1) * 2 ^ 46
+  grown = omega (arith, natAbs-+ℤ s′ (a′ *ℤ y′), product, c .before .before .before .loop .inv .2)
+
+  product-fits : SFits w64 (a′ *ℤ y′)
+  product-fits = sfits-size (omega (arith, product))
+
+  sum-fits : SFits w64 (s′ +ℤ a′ *ℤ y′)
+  sum-fits = sfits-size (omega (arith, grown))
 
 loop-holds : tie.Need-loop-holds Inv-loop μ-loop
 loop-holds c = search needs
@@ -90,8 +76,7 @@ element-copy-out-a c = search needs
 
 cast-a : tie.Need-cast-a Inv-loop μ-loop
 cast-a c =
-    let f : SFits w16 (getD (c .before .before .before .args .coefficients .now) (c .before .before .before .args .from + c .before .before .loop .j) (pos 0)) = record { sfits = c .a .given } in
-    simp toZ-ofZ (widen tt f)
+    wide-fits w16 tt (getD (c .before .before .before .args .coefficients .now) (c .before .before .before .args .from + c .before .before .loop .j) (pos 0)) (record { sfits = c .a .given })
 
 mul-y : tie.Need-mul-y Inv-loop μ-loop
 mul-y c = search needs
@@ -100,13 +85,14 @@ element-copy-out-y : tie.Need-element-copy-out-y Inv-loop μ-loop
 element-copy-out-y c = search needs
 
 cast-y : tie.Need-cast-y Inv-loop μ-loop
-cast-y c = let fa = fa′ c in let fy = fy′ c in let (f₁, f₂, f₃, f₄) = turn′ c in simp toZ-ofZ f₂
+cast-y c = wide-fits w32 tt (y′ c) (fy′ c)
 
 mul-s : tie.Need-mul-s Inv-loop μ-loop
-mul-s c = let fa = fa′ c in let fy = fy′ c in let (f₁, f₂, f₃, f₄) = turn′ c in simp toZ-ofZ f₃
+mul-s c = rw (wide-is w16 tt (a′ c) (fa′ c), wide-is w32 tt (y′ c) (fy′ c)) (product-fits c)
 
 add-s : tie.Need-add-s Inv-loop μ-loop
-add-s c = let fa = fa′ c in let fy = fy′ c in let (f₁, f₂, f₃, f₄) = turn′ c in simp toZ-ofZ f₄
+add-s c =
+    rw (wide-is w16 tt (a′ c) (fa′ c), wide-is w32 tt (y′ c) (fy′ c), toZ-ofZ (product-fits c)) (sum-fits c)
 
 add-j : tie.Need-add-j Inv-loop μ-loop
 add-j c = search needs
@@ -116,13 +102,10 @@ loop-less c = search needs
 
 loop-again : tie.Need-loop-again Inv-loop μ-loop
 loop-again c =
-    let fa = fa′ c in
-    let fy = fy′ c in
-    let (f₁, f₂, f₃, f₄) = turn′ c in
-    let g = grown′ c in (
+    rw (wide-is w16 tt (a′ c) (fa′ c), wide-is w32 tt (y′ c) (fy′ c), toZ-ofZ (product-fits c), toZ-ofZ (sum-fits c)) (
       omega arith,
-      simp toZ-ofZ (rw sum-more (ap (λ t. t +ℤ a′ c *ℤ y′ c) (c .before .before .before .loop .inv .1))),
-      simp toZ-ofZ g,
+      rw sum-more (ap (λ t. t +ℤ a′ c *ℤ y′ c) (c .before .before .before .loop .inv .1)),
+      grown c,
     )
 
 scaled-side-requires : tie.Need-scaled-side-requires Inv-loop μ-loop
@@ -140,21 +123,22 @@ module _ (c : tie.After-scaled-side Inv-loop μ-loop) where
       let f = c .before .before .before .fits .right-side in
       toZ-ofZ {w = w64} (record { sfits = c .scaled-side .ok }) ∙ simp toZ-ofZ at (c .scaled-side .ensures .0)
 
-  last′ : SFits w64 (pos (c .before .before .before .args .scale) *ℤ b′ -ℤ t′)
-  last′ =
+  last-fits : SFits w64 (pos (c .before .before .before .args .scale) *ℤ b′ -ℤ t′)
+  last-fits =
       let f = c .before .before .before .fits .right-side in
       let e = simp toZ-ofZ at (c .scaled-side .ensures .0) in
-      last (pos (c .before .before .before .args .scale) *ℤ b′) t′ (rw e at (c .scaled-side .ensures .1)) (omega arith)
+      let g : natAbs (pos (c .before .before .before .args .scale) *ℤ b′) ≤ 2 ^ 47 = rw e at (c .scaled-side .ensures .1) in
+      sfits-size (omega (arith, natAbs-subℤ (pos (c .before .before .before .args .scale) *ℤ b′) t′))
 
 sub-result : tie.Need-sub-result Inv-loop μ-loop
-sub-result c = rw (side-is c) (last′ c)
+sub-result c = rw (side-is c) (last-fits c)
 
 returns : tie.Need-returns Inv-loop μ-loop
 returns c =
     let l = c .before .before in
     let g = l .before .args in
     let q : l .loop .j ≡ g .n = omega arith in
-    rw (side-is c, toZ-ofZ (last′ c))
+    rw (side-is c, toZ-ofZ (last-fits c))
     (ap (λ t. pos (g .scale) *ℤ b′ c -ℤ t)
     (l .loop .inv .1 ∙ ap (λ (m : ℕ). sum m (λ k. getD (g .coefficients .now) (g .from + k) (pos 0) *ℤ getD (g .trial .now) k (pos 0))) q))
 

@@ -1,27 +1,17 @@
 -- `rounding::rounded_quotient` meets its contract: the magnitudes are rounded, and the tests of the signs give the sign. Assumes nothing.
-use mathlib.Core.Path.{_≡_, sym, ap, ap₂, _∙_, subst}
-use Prim.Native.Nat.{ℕ, _≤_, _^_}
-use native.Mathlib.Omega.{arith}
+use mathlib.Core.Path.{_≡_, sym, ap, ap₂, _∙_}
+use Prim.Native.Nat.{ℕ}
 use lib.IntN.{ℤ, pos, negℤ, natAbs}
 use mir.Syntax.{w64}
-use mir.Val.{SFits, toZ, ofZ}
-use mir.Facts.{toZ-ofZ, toZ-pos}
+use mir.Val.{toZ, ofZ}
+use mir.Facts.{toZ-ofZ}
 use borrow.Author.Needs.{needs}
-use Rattle.integers.specs.Size.{size-sfits, natAbs-negℤ}
+use Rattle.integers.specs.Size.{size-negℤ}
+use Rattle.integers.specs.Signed.{toZ-fits}
 use Rattle.rounding.specs.Round.{near, rnd}
 use Rattle.rounding.specs.Laws.{rnd-signs}
 use Rattle.rounding.proofs.rounded_quotient.Statement.{statement}
 use Rattle.rounding.proofs.rounded_quotient.Tie as tie
-
--- a magnitude whose number fits
-fits-pos : (m : ℕ) (z : ℤ) → SFits w64 z → z ≡ pos m → SFits w64 (pos m)
-fits-pos m z f e = subst (λ t. SFits w64 t) e f
-
-toZ-fits : (m : ℕ) → SFits w64 (pos m) → toZ w64 m ≡ pos m
-toZ-fits m f = toZ-pos w64 (f .sfits)
-
-size-neg : (m : ℕ) (z : ℤ) → SFits w64 z → z ≡ negℤ (pos m) → m ≤ 2 ^ 63
-size-neg m z f e = omega (arith, size-sfits f, ap natAbs e, natAbs-negℤ (pos m))
 
 module _ (c : tie.After-nearest) where
   abbrev p′ : ℤ
@@ -77,19 +67,19 @@ nearest-requires c κs =
     rw e (c .before .before .pre .divisor)
 
 cast-result : tie.Need-cast-result
-cast-result c = fits-pos _ _ (c .before .before .before .before .before .pre .fits) (both-below c)
+cast-result c = rw (both-below c) at (c .before .before .before .before .before .pre .fits)
 
 negated-requires : tie.Need-negated-requires
-negated-requires c κs = size-neg _ _ (c .before .before .before .before .before .pre .fits) (below c)
+negated-requires c κs = size-negℤ _ (rw (below c) at (c .before .before .before .before .before .pre .fits))
 
 negated-requires-2 : tie.Need-negated-requires-2
-negated-requires-2 c κs = size-neg _ _ (c .before .before .before .before .before .pre .fits) (divisor-below c)
+negated-requires-2 c κs = size-negℤ _ (rw (divisor-below c) at (c .before .before .before .before .before .pre .fits))
 
 cast-result-2 : tie.Need-cast-result-2
-cast-result-2 c = fits-pos _ _ (c .before .before .before .before .before .pre .fits) (none-below c)
+cast-result-2 c = rw (none-below c) at (c .before .before .before .before .before .pre .fits)
 
 returns : tie.Need-returns
-returns c = toZ-fits _ (cast-result c) ∙ sym (both-below c)
+returns c = toZ-fits w64 _ (cast-result c) ∙ sym (both-below c)
 
 returns-2 : tie.Need-returns-2
 returns-2 c =
@@ -102,7 +92,7 @@ returns-3 c =
     rw e (toZ-ofZ (c .before .before .before .before .before .before .pre .fits))
 
 returns-4 : tie.Need-returns-4
-returns-4 c = toZ-fits _ (cast-result-2 c) ∙ sym (none-below c)
+returns-4 c = toZ-fits w64 _ (cast-result-2 c) ∙ sym (none-below c)
 
 pub rounded-quotient-spec : {M : Type 1} → statement M
 rounded-quotient-spec =

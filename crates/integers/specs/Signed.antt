@@ -25,6 +25,10 @@ natural : (w : Width) (z : ℤ) → SFits w z → ltZ z (pos 0) ≡ false → to
 natural w (pos n) h t = toZ-pos w (h .sfits)
 natural w (negsuc k) h t = let z : _≡_ {A = ℕ} 0 1 = cc in absurd (omega arith)
 
+-- a natural cast to a signed width that holds it
+pub toZ-fits : (w : Width) (m : ℕ) → SFits w (pos m) → toZ w m ≡ pos m
+toZ-fits w m f = toZ-pos w (f .sfits)
+
 -- as a branch on `z < 0` leaves them: the test is of the number that is read back from the bits
 half : (w : Width) → 0 < 2 ^ hbits w
 half w = one-le-pow (hbits w) 2 (lit≤ tt)
