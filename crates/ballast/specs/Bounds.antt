@@ -1,15 +1,15 @@
 -- What the limits of a case give the call: nothing wraps, and every figure fits its place in the record. Assumes nothing.
-use mathlib.Core.Path.{_≡_, refl, ap}
+use mathlib.Core.Path.{_≡_, refl}
 use mathlib.Core.Bool.{Bool, true, false, _&&_}
 use mathlib.Core.List.{List, [], _∷_}
 use Prim.Native.Nat.{ℕ, zero, suc, _+_, _*_, _^_, _≤_, _<_}
 use native.Mathlib.Nat.{mul-le-mul}
 use native.Mathlib.Omega.{arith}
-use lib.Dec.{lit≤, leb}
+use lib.Dec.{lit≤}
 use lib.ListN.{getD}
 use lib.IntN.{ℤ, pos, natAbs}
 use borrow.Author.Tests.{le-leb, leb-true}
-use Rattle.integers.specs.Sums.{total, total-bound}
+use Rattle.integers.specs.Sums.{total-bound}
 use Rattle.figures.specs.Figures.{upTo, within, all}
 use Rattle.casefile.specs.Case.{Case}
 use Rattle.casefile.specs.CaseLaws.{Good}

@@ -17,8 +17,7 @@ use Rattle.outcome.specs.declared.Outcome.{Outcome}
 use Rattle.outcome.specs.declared.Status.{Status as FileStatus}
 use Rattle.outcome.specs.declared.Status.the-variants.{Accepted, Refused as RefusedBy}
 use Rattle.ballast.specs.declared.Answer.{Answer as FileAnswer}
-use Rattle.outcome.specs.declared.Outcome.the-variants.{Count, Refused}
-use Rattle.buffer.specs.Buffer.{onto}
+use Rattle.outcome.specs.declared.Outcome.the-variants.{Count}
 use Rattle.buffer.specs.Laws.{take-onto}
 use Rattle.casefile.specs.Case.{Case}
 use Rattle.casefile.specs.CaseLaws.{Good, good, decode-fine}
@@ -26,7 +25,7 @@ use Rattle.casefile.specs.Decode.{Decoded, accepted, refused, decode, stored}
 use Rattle.casefile.specs.Write.{leaves}
 use Rattle.judge.specs.System.{System, Trial, row, trial, residual, reach}
 use Rattle.judge.specs.Judgement.{no-factor, first-unmet, deciding, judgement}
-use Rattle.judge.specs.Finding.{Finding, Justified, Agrees}
+use Rattle.judge.specs.Finding.{Justified, Agrees}
 use Rattle.judge.specs.Laws.{first-not-suc, at-residuals, at-reaches}
 use Rattle.judge.specs.Theorem.{justified}
 use Rattle.recordfile.specs.Layout.{recordOf, recordLength, Holds}
@@ -34,14 +33,13 @@ use Rattle.recordfile.specs.Laws.{length-record, longest-record}
 use Rattle.recordfile.specs.ReadOff.{recordedAnswer, recordedFinding}
 use Rattle.recordfile.specs.ReadOffLaws.{recorded-met, recorded-unmet, recorded-rounds, recorded-answer, recorded-residual, recorded-reach, recorded-none, recorded-decides}
 use Rattle.solver.specs.declared.Solution.{Solution}
-use Rattle.solver.specs.declared.Status.{Status}
 use Rattle.solver.specs.declared.Status.the-variants.{Answered}
 use Rattle.solver.specs.Claims.{Answer}
 use Rattle.solver.specs.Answers.{answer, rounds}
 use Rattle.solver.specs.Sizes.{residual-le}
-use Rattle.ballast.specs.Call.{scaleOf, systemOf, brought, worked-in, worked, answer-of, finished, finished-by, refusing, shortest, call, Workable}
+use Rattle.ballast.specs.Call.{scaleOf, systemOf, worked-in, worked, answer-of, finished, finished-by, refusing, shortest, call, Workable}
 use Rattle.ballast.specs.CallLaws.{answering}
-use Rattle.ballast.specs.Demand.{recorded, Finished, Demand, Demanded, Promise}
+use Rattle.ballast.specs.Demand.{Finished, Demand, Demanded, Promise}
 use Rattle.ballast.specs.Bounds.{limits, trial-figures, reach-le}
 use Rattle.ballast.specs.Agreement.{agrees-with}
 

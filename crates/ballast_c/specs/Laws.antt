@@ -1,7 +1,7 @@
 -- The C functions' definitions as the code meets them: every count is small, and each call behind them gives what they promise. Assumes nothing.
 use mathlib.Core.Path.{_≡_, refl, sym, ap, _∙_}
 use mathlib.Core.List.{List, _++_, append-assoc}
-use Prim.Native.Nat.{ℕ, _+_, _-_, _^_, _<_, _≤_}
+use Prim.Native.Nat.{ℕ, _+_, _-_, _<_, _≤_}
 use native.Mathlib.Omega.{arith}
 use borrow.Author.Tests.{le-leb, lt-leb}
 use lib.ListN.{length, take, drop, length-append, length-drop, take-append-drop}
@@ -14,13 +14,13 @@ use Rattle.outcome.specs.declared.Outcome.the-variants.{Count, Refused}
 use Rattle.buffer.specs.Buffer.{onto}
 use Rattle.casefile.specs.declared.Case.{Case}
 use Rattle.casefile.specs.Case.{Case as Figures}
-use Rattle.casefile.specs.Decode.{Decoded, accepted, refused, decode, stored}
+use Rattle.casefile.specs.Decode.{Decoded, refused, decode, stored}
 use Rattle.casefile.specs.CaseLaws.{good, decode-fine, longest}
 use Rattle.casefile.specs.Write.{leaves, write}
 use Rattle.casefile.specs.WriteLaws.{counts, write-accepted}
 use Rattle.report.specs.Text.{text-room, Printed}
 use Rattle.verdict_text.specs.Verdict.{verdict-of}
-use Rattle.ballast.specs.Call.{answer-of, call}
+use Rattle.ballast.specs.Call.{answer-of}
 use Rattle.ballast.specs.CallLaws.{Whole}
 use Rattle.ballast.specs.Demand.{Promise}
 use Rattle.ballast.specs.Theorem.{count-le}

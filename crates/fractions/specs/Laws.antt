@@ -2,8 +2,8 @@
 -- then by the remainders turned over. Assumes nothing.
 use mathlib.Core.Path.{_≡_, refl, sym, ap, ap₂, _∙_}
 use mathlib.Core.Logic.{_⊎_, inl, inr, _↔_}
-use Prim.Native.Nat.{ℕ, zero, suc, _+_, _*_, _/_, _%_, _<_, _≤_, compare, compare·zero-zero, compare·zero-suc, compare·suc-zero, compare·suc-suc}
-use native.Mathlib.Nat.{zero-add, suc-add, le-of-suc-le-suc, div-add-mod', mod-lt, mul-le-mul-right, mul-le-mul-left, le-of-mul-le-mul-left, mul-pos}
+use Prim.Native.Nat.{ℕ, zero, suc, _+_, _*_, _/_, _%_, _<_, _≤_, compare·zero-zero, compare·zero-suc, compare·suc-zero, compare·suc-suc}
+use native.Mathlib.Nat.{zero-add, suc-add, le-of-suc-le-suc, div-add-mod', mod-lt, mul-le-mul-right, le-of-mul-le-mul-left, mul-pos}
 use native.Mathlib.Decide.{decLt, decLe}
 use native.Mathlib.Omega.{arith}
 use Rattle.fractions.specs.declared.Order.the-variants.{Less, Equal, Greater}

@@ -10,7 +10,7 @@ use Rattle.fractions.specs.Fraction.{_over_, Fraction}
 use Rattle.fractions.specs.Greatest.{first-greatest}
 use Rattle.judge.specs.declared.Standing.{Standing}
 use Rattle.judge.specs.declared.Judgement.{Judgement}
-use Rattle.judge.specs.System.{Trial, System, residual, reach, row, trial}
+use Rattle.judge.specs.System.{Trial, System, residual, reach, row}
 
 -- "A row is met exactly if |R| is at most T."
 abbrev pub within : ℤ → ℕ → Bool

@@ -5,12 +5,12 @@ use Prim.Native.Nat.{ℕ, zero, suc, _*_, _-_, _≤_, _<_}
 use native.Mathlib.Nat.{mul-le-mul-right}
 use native.Mathlib.Omega.{arith}
 use borrow.Author.Tests.{leb-true, leb-false, eqb-true, eqb-false, ne-eqb}
-use lib.Dec.{eqb, leb}
-use lib.IntN.{ℤ, pos, natAbs}
+use lib.Dec.{eqb}
+use lib.IntN.{ℤ, natAbs}
 use Rattle.fractions.specs.Fraction.{below}
-use Rattle.fractions.specs.Greatest.{first-greatest, First, first-greatest-is}
+use Rattle.fractions.specs.Greatest.{First, first-greatest-is}
 use Rattle.judge.specs.System.{System, Trial, row, residual, reach}
-use Rattle.judge.specs.Changes.{Possible, yielded}
+use Rattle.judge.specs.Changes.{Possible}
 use Rattle.judge.specs.Judgement.{within, factor, no-factor, first-unmet, deciding, judgement}
 use Rattle.judge.specs.Laws.{Fails, first-not-zero, first-not-suc, at-residuals, at-reaches}
 use Rattle.judge.specs.OettliPrager.{oettli-prager, within-tolerances, yielded-keep}

@@ -4,7 +4,7 @@ use mathlib.Core.Path.{_≡_, sym, ap, subst, _∙_}
 use denote.Ref.{now}
 use Rattle.outcome.specs.declared.Status.the-variants.{Accepted}
 use Rattle.casefile.specs.CaseLaws.{good, decode-fine}
-use Rattle.casefile.specs.Decode.{decode, reading}
+use Rattle.casefile.specs.Decode.{decode}
 use Rattle.ballast.specs.Call.{Workable}
 use Rattle.ballast.specs.CallLaws.{Whole, reading-refused, reading-accepted, refusal-read, answer-read, worked-brought, worked-solved}
 use Rattle.ballast.specs.Theorem.{workable}

@@ -2,7 +2,6 @@
 use mathlib.Core.Path.{ap, _∙_}
 use Prim.Native.Nat.{_*_}
 use denote.Ref.{now}
-use lib.ListN.{length}
 use Rattle.buffer.specs.Buffer.{onto}
 use Rattle.buffer.specs.Laws.{then}
 use Rattle.fields.specs.Field.{header}
