@@ -4,6 +4,7 @@ use mathlib.Core.Path.{_∙_, ap}
 use Prim.Native.Nat.{ℕ}
 use denote.Ref.{now}
 use mir.Syntax.{w64}
+use mir.Val.{ofZ}
 use mir.Facts.{toZ-ofZ}
 use Rattle.bigendian.specs.Number.{bytes}
 use Rattle.buffer.specs.Buffer.{onto}
@@ -23,7 +24,7 @@ same-length c = search needs
 returns : tie.Need-returns
 returns c = let s = c .before .before .before .before .before .before in
     c .before .before .write-u64 .ensures
-    ∙ ap (λ (x : ℕ). onto (bytes 8 x) (now (s .args .out))) (rw (toZ-ofZ {w = w64} (s .fits .z)) at (c .before .before .before .bits64 .ensures))
+    ∙ ap (λ (x : ℕ). onto (bytes 8 x) (now (s .args .out))) (c .before .before .before .bits64 .ensures ∙ ap (ofZ w64) (toZ-ofZ (s .fits .z)))
 
 pub write-i64-spec : {M : Type 1} → statement M
 write-i64-spec = tie.close (tie.spec bits64-requires write-u64-requires same-length returns)
