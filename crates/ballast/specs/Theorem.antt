@@ -11,7 +11,6 @@ use lib.IntN.{ℤ, pos}
 use mir.Syntax.{w32, w64}
 use mir.Val.{SFits}
 use Rattle.integers.specs.Size.{sfits-size}
-use Rattle.fractions.specs.Greatest.{first-greatest-below}
 use Rattle.outcome.specs.declared.Refusal.the-variants.{BufferTooShort}
 use Rattle.outcome.specs.declared.Outcome.{Outcome}
 use Rattle.outcome.specs.declared.Status.{Status as FileStatus}
@@ -24,9 +23,10 @@ use Rattle.casefile.specs.CaseLaws.{Good, good, decode-fine}
 use Rattle.casefile.specs.Decode.{Decoded, accepted, refused, decode, stored}
 use Rattle.casefile.specs.Write.{leaves}
 use Rattle.judge.specs.System.{System, Trial, row, trial, residual, reach}
-use Rattle.judge.specs.Judgement.{no-factor, first-unmet, deciding, judgement}
+use Rattle.judge.specs.Judgement.{no-factor, deciding, judgement}
 use Rattle.judge.specs.Finding.{Justified, Agrees}
-use Rattle.judge.specs.Laws.{first-not-suc, at-residuals, at-reaches}
+use Rattle.judge.specs.Laws.{unmet-le, deciding-below, at-residuals, at-reaches}
+use Rattle.judge.specs.Agreement.{agrees-with}
 use Rattle.judge.specs.Theorem.{justified}
 use Rattle.recordfile.specs.Layout.{recordOf, recordLength, Holds}
 use Rattle.recordfile.specs.Laws.{length-record, longest-record}
@@ -41,7 +41,6 @@ use Rattle.ballast.specs.Call.{scaleOf, systemOf, worked-in, worked, ans
 use Rattle.ballast.specs.CallLaws.{answering}
 use Rattle.ballast.specs.Demand.{Finished, Demand, Demanded, Promise}
 use Rattle.ballast.specs.Bounds.{limits, trial-figures, reach-le}
-use Rattle.ballast.specs.Agreement.{agrees-with}
 
 -- ---- the answer, brought or worked out: within its limits, and beside its own judgement
 
@@ -67,10 +66,6 @@ module _ (s : System) (D rounds : ℕ) (Y : List ℤ) (h : 0 < s .n) (k : s .n �
   abbrev bytes : List ℕ
   bytes = recordOf (s .n) rounds Y (judgement s t)
 
-  decides-below : deciding s t < s .n
-  unfolding deciding
-  decides-below = first-greatest-below _ (s .n) (s .n) (omega arith) h
-
   -- the bytes agree with the judgement
   said : Agrees s t (recordedFinding (s .n) bytes)
   unfolding judgement
@@ -80,7 +75,7 @@ module _ (s : System) (D rounds : ℕ) (Y : List ℤ) (h : 0 < s .n) (k : s .n �
         unmet = recorded-unmet (s .n) rounds Y (judgement s t);
         none =
             recorded-none (s .n) rounds Y (judgement s t)
-            ∙ ap₂ no-factor (at-residuals s t k (deciding s t) decides-below) (at-reaches s t k (deciding s t) decides-below);
+            ∙ ap₂ no-factor (at-residuals s t k (deciding s t) (deciding-below s t h)) (at-reaches s t k (deciding s t) (deciding-below s t h));
         decides = recorded-decides (s .n) rounds Y (judgement s t);
         R = λ i l. recorded-residual (s .n) rounds Y (judgement s t) i l (rw (at-residuals s t k i l) (fits-residual i)) ∙ at-residuals s t k i l;
         T = λ i l. recorded-reach (s .n) rounds Y (judgement s t) i l (rw (at-reaches s t k i l) (fits-reach i)) ∙ at-reaches s t k i l;
@@ -179,18 +174,6 @@ promised input entry o exit e =
 
 -- ---- what a record asks of an answer: rows and rounds of a byte each
 
-unmet-le : (s : System) (t : Trial) → first-unmet s t ≤ s .n
-unfolding first-unmet
-unmet-le s t = go (first-unmet s t) refl
-  where
-    go : (m : ℕ) → first-unmet s t ≡ m → m ≤ s .n
-    go zero e = omega arith
-    go (suc m) e = first-not-suc _ (s .n) m e .place
-
-decides-le : (s : System) (t : Trial) → 0 < s .n → suc (deciding s t) ≤ s .n
-unfolding deciding
-decides-le s t h = first-greatest-below _ (s .n) (s .n) (omega arith) h
-
 module _ (c : Case) (g : Good c) where
   rounds-le : (k : ℕ) → k ≤ 8 → worked-in k (stored c) .status ≡ Answered → worked-in k (stored c) .rounds ≤ 8
   unfolding stored
@@ -207,7 +190,7 @@ module _ (c : Case) (g : Good c) where
       let d = ap (λ k. k .decides) j in
       let t = trial (c .n) (scaleOf (c .exponent)) (worked (stored c) .trial) in
       let ul = unmet-le (systemOf (stored c)) t in
-      let dl = decides-le (systemOf (stored c)) t (omega (arith, g .least)) in
+      let dl = deciding-below (systemOf (stored c)) t (omega (arith, g .least)) in
       let small = g .small in
       record {
         rows = g .small;

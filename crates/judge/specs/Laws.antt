@@ -10,7 +10,7 @@ use lib.ListN.{getD}
 use lib.IntN.{ℤ, pos}
 use mathlib.Core.List.{List, []}
 use Rattle.integers.specs.Tables.{getD-filled}
-use Rattle.fractions.specs.Greatest.{first-greatest-cong}
+use Rattle.fractions.specs.Greatest.{first-greatest-cong, first-greatest-below}
 use Rattle.judge.specs.declared.Standing.{Standing}
 use Rattle.judge.specs.System.{System, Trial, system, row, residual, reach}
 use Rattle.judge.specs.Judgement.{within, factor, no-factor, or-else, first-not, first-unmet, deciding, residuals, reaches, judgement, standing, deciding-place, concluded}
@@ -76,6 +76,20 @@ unfolding first-not
 first-not-cong p q zero h = refl
 first-not-cong p q (suc n) h =
     ap₂ or-else (first-not-cong p q n (λ i l. h i (omega arith))) (ap (λ b. cond b 0 (suc n)) (h n (omega arith)))
+
+-- ---- where the rows stand that are named
+
+pub unmet-le : (s : System) (t : Trial) → first-unmet s t ≤ s .n
+unfolding first-unmet
+unmet-le s t = go (first-unmet s t) refl
+  where
+    go : (m : ℕ) → first-unmet s t ≡ m → m ≤ s .n
+    go zero e = omega arith
+    go (suc m) e = first-not-suc _ (s .n) m e .place
+
+pub deciding-below : (s : System) (t : Trial) → 0 < s .n → deciding s t < s .n
+unfolding deciding
+deciding-below s t h = first-greatest-below _ (s .n) (s .n) (omega arith) h
 
 -- ---- the whole, from its parts
 

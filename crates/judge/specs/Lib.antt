@@ -6,5 +6,6 @@ pub mod ZeroTrial
 pub mod Sizes
 pub mod OettliPrager
 pub mod Finding
+pub mod Agreement
 pub mod Theorem
 pub mod Places
