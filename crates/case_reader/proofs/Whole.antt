@@ -15,10 +15,10 @@ use Rattle.outcome.specs.Outcome.{first}
 use Rattle.outcome.specs.Laws.{check-accepted, first-accepted}
 use Rattle.buffer.specs.Buffer.{onto}
 use Rattle.figures.specs.FigureLaws.{and-true}
-use Rattle.fields.specs.Field.{headerSize, fieldStatus}
+use Rattle.fields.specs.Field.{fieldStatus}
 use Rattle.fields.specs.FieldLaws.{field-room}
 use Rattle.casefile.specs.Case.{mostTanks, headFine}
-use Rattle.casefile.specs.Layout.{headTag, headLength, rowLength, trialSize}
+use Rattle.casefile.specs.Layout.{headTag, headLength, rowSize, rowsEnd, trialSize}
 use Rattle.casefile.specs.Decode.{headByte, headStatus, rowsStatus, rowsOf, trialStatus, trialOf, endStatus, tailOf, inputStatus, gathered, caseOf, refused, decode, stored, reading}
 use Rattle.casefile.specs.RowsLaws.{after-rows}
 use Rattle.casefile.specs.TailLaws.{after-trial}
@@ -36,11 +36,11 @@ module _ (s : List ℕ) where
 
   -- where the rows end
   abbrev pub tail : ℕ
-  tail = 6 + n * (headerSize + rowLength n)
+  tail = rowsEnd n
 
   tail-is : tailOf s ≡ drop tail s
   tail-is =
-      rw (getD-drop 3 s 0 0) (after-rows n n (drop 6 s) ∙ drop-drop (n * (headerSize + rowLength n)) 6 s)
+      rw (getD-drop 3 s 0 0) (after-rows n n (drop 6 s) ∙ drop-drop (n * rowSize n) 6 s)
 
   status-is : inputStatus s
       ≡ first (headStatus s)

@@ -13,7 +13,7 @@ use outcome::Status;
 fn read_head(s: &[u8]) -> Status
     ensures { λ r. ⌜ r ≡ headStatus (now (s .entry)) ⌝ }
 {
-    let field = fields::check_field(s, 0, casefile::HEAD_TAG, 3);
+    let field = fields::check_field(s, 0, casefile::HEAD_TAG, casefile::HEAD_LENGTH);
     if let Status::Refused(_) = field {
         return field;
     }
@@ -35,7 +35,7 @@ fn read_trial(s: &[u8], at: usize, rounds: usize, n: usize, y: &mut [i32]) -> St
     if rounds != 0 {
         return Status::Accepted;
     }
-    let field = fields::check_field(s, at, casefile::TRIAL_TAG, 4 * n);
+    let field = fields::check_field(s, at, casefile::TRIAL_TAG, casefile::trial_length(n));
     if let Status::Refused(_) = field {
         return field;
     }
@@ -49,7 +49,7 @@ fn read_trial(s: &[u8], at: usize, rounds: usize, n: usize, y: &mut [i32]) -> St
 fn read_end(s: &[u8], at: usize) -> Status
     ensures { λ r. ⌜ r ≡ endStatus (drop at (now (s .entry))) ⌝ }
 {
-    let field = fields::check_field(s, at, casefile::END_TAG, 0);
+    let field = fields::check_field(s, at, casefile::END_TAG, casefile::END_LENGTH);
     if let Status::Refused(_) = field {
         return field;
     }
@@ -105,7 +105,7 @@ pub fn read_case(s: &[u8]) -> Reading
     if let Status::Refused(q) = rows {
         return refused(q);
     }
-    let tail = casefile::ROWS_AT + n * (HEADER_SIZE + (4 * n + 8));
+    let tail = casefile::rows_end(n);
     let brought = read_trial(s, tail, rounds, n, &mut y);
     if let Status::Refused(q) = brought {
         return refused(q);

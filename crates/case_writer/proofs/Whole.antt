@@ -2,7 +2,7 @@
 -- Assumes nothing.
 use mathlib.Core.Path.{_≡_, sym, ap, _∙_}
 use mathlib.Core.List.{List, [], _++_, append-assoc}
-use Prim.Native.Nat.{ℕ, _+_, _*_, _≤_}
+use Prim.Native.Nat.{ℕ, _+_, _≤_}
 use native.Mathlib.Omega.{arith}
 use lib.ListN.{length, length-append}
 use borrow.Author.Tests.{le-leb, lt-leb}
@@ -15,21 +15,18 @@ use Rattle.buffer.specs.Laws.{part, put, then}
 use Rattle.fields.specs.Field.{headerSize, field}
 use Rattle.fields.specs.FieldLaws.{length-field}
 use Rattle.casefile.specs.Case.{Case, caseStatus}
-use Rattle.casefile.specs.Layout.{joined, headTag, rowLength, trialSize, endTag, longestCase, rowField, rowsIn, encode}
+use Rattle.casefile.specs.Layout.{joined, headTag, rowsEnd, trialSize, endTag, longestCase, rowField, rowsIn, encode}
 use Rattle.casefile.specs.TailLaws.{trialBytes}
 use Rattle.casefile.specs.CaseLaws.{Good, good, headBytes, encode-is, length-rows-in, length-encode, longest}
 use Rattle.casefile.specs.Write.{writeStatus, write, leaves}
 
 module _ (c : Case) (g : Good c) where
-  abbrev pub tail : ℕ
-  tail = 6 + c .n * (headerSize + rowLength (c .n))
-
-  pub fields-written : (out x0 y1 y2 : List ℕ)
+  pub fields-written : (tail : ℕ) (out x0 y1 y2 : List ℕ) → tail ≡ rowsEnd (c .n)
       → x0 ≡ onto (field headTag (headBytes c)) out
       → y1 ≡ onto (joined rowField (rowsIn c)) (part x0 6)
       → y2 ≡ onto (trialBytes (c .rounds) (c .trial) ++ field endTag []) (part (put x0 6 y1) tail)
       → put (put x0 6 y1) tail y2 ≡ onto (encode c) out
-  fields-written out x0 y1 y2 e0 e1 e2 =
+  fields-written tail out x0 y1 y2 et e0 e1 e2 =
       let H : List ℕ = field headTag (headBytes c) in
       let R : List ℕ = joined rowField (rowsIn c) in
       let T : List ℕ = trialBytes (c .rounds) (c .trial) ++ field endTag [] in
@@ -41,7 +38,7 @@ module _ (c : Case) (g : Good c) where
 
 -- how long the parts are
 pub sizes : (c : Case) → caseStatus c ≡ Accepted
-    → (length (encode c) ≡ 6 + (c .n * (headerSize + rowLength (c .n)) + (trialSize (c .rounds) (c .n) + headerSize))) × (length (encode c) ≤ longestCase)
+    → (length (encode c) ≡ rowsEnd (c .n) + (trialSize (c .rounds) (c .n) + headerSize)) × (length (encode c) ≤ longestCase)
 sizes c e = (length-encode c (good c e), longest c e)
 
 -- ---- the answer

@@ -2,7 +2,7 @@
 -- Assumes nothing.
 use mathlib.Core.Path.{_≡_, refl, sym, ap, _∙_}
 use mathlib.Core.List.{List, [], _∷_, _++_, append-nil}
-use Prim.Native.Nat.{ℕ, zero, suc, _+_, _*_, _-_, _≤_}
+use Prim.Native.Nat.{ℕ, zero, suc, _+_, _-_, _≤_}
 use native.Mathlib.Omega.{arith}
 use lib.ListN.{length, set, length-append}
 use lib.Seq.{drop-drop, sets-eq}
@@ -14,7 +14,7 @@ use Rattle.figures.specs.Figures.{i32, spread}
 use Rattle.figures.specs.FigureLaws.{length-spread}
 use Rattle.fields.specs.Field.{header, field}
 use Rattle.fields.specs.FieldLaws.{length-header, field-is-header}
-use Rattle.casefile.specs.Layout.{headTag, trialTag, endTag}
+use Rattle.casefile.specs.Layout.{headTag, trialTag, trialLength, endTag}
 use Rattle.casefile.specs.TailLaws.{trialBytes}
 
 -- ---- the head
@@ -33,19 +33,19 @@ pub tail-plain : (out x : List ℕ) (k : ℕ) (y : List ℤ) → (k ≡ 0 → �
 tail-plain out x zero y h e = absurd (h refl)
 tail-plain out x (suc k) y h e = e ∙ ap (λ (d : List ℕ). onto d out) end-header
 
-pub tail-trial : (out : List ℕ) (m : ℕ) (y : List ℤ) (x0 y1 y2 : List ℕ) → length y ≡ m
-    → x0 ≡ onto (header trialTag (4 * m)) out
+pub tail-trial : (out : List ℕ) (len : ℕ) (y : List ℤ) (x0 y1 y2 : List ℕ) → len ≡ trialLength (length y)
+    → x0 ≡ onto (header trialTag len) out
     → y1 ≡ onto (spread i32 y) (part x0 3)
-    → y2 ≡ onto (header endTag 0) (part (put x0 3 y1) (3 + 4 * m))
-    → put (put x0 3 y1) (3 + 4 * m) y2 ≡ onto (trialBytes 0 y ++ field endTag []) out
-tail-trial out m y x0 y1 y2 ly e0 e1 e2 =
-    let lv : length (spread i32 y) ≡ 4 * m = length-spread i32 y ∙ rw ly in
-    let l0 : length (header trialTag (4 * m)) ≡ 3 = length-header trialTag (4 * m) in
-    let l1 : length (header trialTag (4 * m) ++ spread i32 y) ≡ 3 + 4 * m = length-append (header trialTag (4 * m)) (spread i32 y) ∙ omega arith in
-    let p1 = then out x0 (header trialTag (4 * m)) (spread i32 y) 3 y1 e0 l0 e1 in
-    let p2 = then out (put x0 3 y1) (header trialTag (4 * m) ++ spread i32 y) (header endTag 0) (3 + 4 * m) y2 p1 l1 e2 in
-    let c : (header trialTag (4 * m) ++ spread i32 y) ++ header endTag 0 ≡ trialBytes 0 y ++ field endTag [] =
-    ap (λ (d : List ℕ). d ++ header endTag 0) (field-is-header trialTag (spread i32 y) (4 * m) lv)
+    → y2 ≡ onto (header endTag 0) (part (put x0 3 y1) (3 + len))
+    → put (put x0 3 y1) (3 + len) y2 ≡ onto (trialBytes 0 y ++ field endTag []) out
+tail-trial out len y x0 y1 y2 el e0 e1 e2 =
+    let lv : length (spread i32 y) ≡ len = length-spread i32 y ∙ sym el in
+    let l0 : length (header trialTag len) ≡ 3 = length-header trialTag len in
+    let l1 : length (header trialTag len ++ spread i32 y) ≡ 3 + len = length-append (header trialTag len) (spread i32 y) ∙ omega arith in
+    let p1 = then out x0 (header trialTag len) (spread i32 y) 3 y1 e0 l0 e1 in
+    let p2 = then out (put x0 3 y1) (header trialTag len ++ spread i32 y) (header endTag 0) (3 + len) y2 p1 l1 e2 in
+    let c : (header trialTag len ++ spread i32 y) ++ header endTag 0 ≡ trialBytes 0 y ++ field endTag [] =
+    ap (λ (d : List ℕ). d ++ header endTag 0) (field-is-header trialTag (spread i32 y) len lv)
     ∙ ap (λ (d : List ℕ). field trialTag (spread i32 y) ++ d) end-header
     ∙ ap (λ (d : List ℕ). d ++ field endTag []) (sym (append-nil (field trialTag (spread i32 y)))) in
     p2 ∙ ap (λ (d : List ℕ). onto d out) c

@@ -93,7 +93,7 @@ fn write_head(out: &mut [u8], n: usize, exponent: usize, rounds: usize)
     requires { ⌜ HeadRoom (now out) n exponent rounds ⌝ }
     ensures { λ _. ⌜ now (out .exit) ≡ onto (field headTag (n ∷ exponent ∷ rounds ∷ [])) (now (out .entry)) ⌝ }
 {
-    fields::write_header(out, casefile::HEAD_TAG, 3);
+    fields::write_header(out, casefile::HEAD_TAG, casefile::HEAD_LENGTH as u16);
     out[casefile::N_AT] = n as u8;
     out[casefile::EXPONENT_AT] = exponent as u8;
     out[casefile::ROUNDS_AT] = rounds as u8;
@@ -105,12 +105,17 @@ fn write_tail(out: &mut [u8], rounds: usize, n: usize, y: &[i32])
     ensures { λ _. ⌜ now (out .exit) ≡ onto (trialBytes rounds (now (y .entry)) ++ field endTag []) (now (out .entry)) ⌝ }
 {
     if rounds == 0 {
-        fields::write_header(out, casefile::TRIAL_TAG, (4 * n) as u16);
+        let length = casefile::trial_length(n);
+        fields::write_header(out, casefile::TRIAL_TAG, length as u16);
         figures::write_i32s(&mut out[HEADER_SIZE..], y);
-        let end = HEADER_SIZE + 4 * n;
-        fields::write_header(&mut out[end..], casefile::END_TAG, 0);
+        let end = HEADER_SIZE + length;
+        fields::write_header(
+            &mut out[end..],
+            casefile::END_TAG,
+            casefile::END_LENGTH as u16,
+        );
     } else {
-        fields::write_header(out, casefile::END_TAG, 0);
+        fields::write_header(out, casefile::END_TAG, casefile::END_LENGTH as u16);
     }
 }
 
@@ -133,7 +138,7 @@ fn write_fields(
 {
     write_head(out, n, exponent, rounds);
     row_writer::write_rows(&mut out[casefile::ROWS_AT..], n, a, t, b, f);
-    let tail = casefile::ROWS_AT + n * (HEADER_SIZE + (4 * n + 8));
+    let tail = casefile::rows_end(n);
     write_tail(&mut out[tail..], rounds, n, y);
     tail + casefile::trial_size(rounds, n) + HEADER_SIZE
 }

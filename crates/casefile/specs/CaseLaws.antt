@@ -5,7 +5,7 @@ use mathlib.Core.List.{List, [], _∷_, _++_, append-assoc, append-nil, map}
 use mathlib.Core.Bool.{true}
 use Prim.Native.Nat.{ℕ, zero, suc, _+_, _*_, _≤_}
 use native.Mathlib.Omega.{arith}
-use native.Mathlib.Nat.{mul-le-mul, mul-one}
+use native.Mathlib.Nat.{mul-one}
 use lib.ListN.{length, getD, take, length-append}
 use lib.Dec.{leb, eqb}
 use borrow.Author.Tests.{leb-true, eqb-true, eq-eqb}
@@ -21,9 +21,9 @@ use Rattle.figures.specs.FigureLaws.{and-true}
 use Rattle.fields.specs.Field.{headerSize, field, valueOf, afterField, fieldStatus}
 use Rattle.fields.specs.FieldLaws.{length-field, field-accepted, value-room, field-is}
 use Rattle.casefile.specs.Case.{Case, mostTanks, mostExponent, mostRounds, coefficientLimit, toleranceLimit, rightSideLimit, rightToleranceLimit, trialLimit, headFine, trialCount, counted, figuresFine, caseStatus}
-use Rattle.casefile.specs.Layout.{joined, headTag, headLength, rowLength, endTag, longestCase, rowField, rowsIn, trialSize, trialFields, encode}
+use Rattle.casefile.specs.Layout.{joined, headTag, headLength, rowSize, rowsEnd, endTag, longestCase, rowField, rowsIn, trialSize, trialFields, encode}
 use Rattle.casefile.specs.Decode.{headByte, headStatus, rowsStatus, rowsOf, trialStatus, afterTrial, endStatus, tailOf, inputStatus, caseOf, accepted, decoded, decode}
-use Rattle.casefile.specs.RowsLaws.{Rows, rows-back, rows-sound, rows-same, length-rows, after-rows, joined-length, joined-fine, length-row-fields, Lists, split-sound, length-split, joined-split, split-joined}
+use Rattle.casefile.specs.RowsLaws.{Rows, rows-back, rows-sound, rows-same, length-rows, after-rows, joined-length, joined-fine, length-row-fields, rows-fit, Lists, split-sound, length-split, joined-split, split-joined}
 use Rattle.casefile.specs.TailLaws.{trialBytes, length-trial, trial-back, trial-read, trial-same, end-back, end-same}
 
 -- ---- what a case that is not refused has
@@ -212,7 +212,7 @@ module _ (s : List ℕ) (e : inputStatus s ≡ Accepted) where
   case-bytes bs =
       let s1 : List ℕ = afterField headLength s in
       let b1 = bytes-drop (headerSize + headLength) bs in
-      let b2 : Bytes (tailOf s) = rw (after-rows N N (afterField headLength s)) (bytes-drop (N * (headerSize + rowLength N)) b1) in
+      let b2 : Bytes (tailOf s) = rw (after-rows N N (afterField headLength s)) (bytes-drop (N * rowSize N) b1) in
       let split-is = rw rows-count at (split-joined N rows-are) in
       let v = three (valueOf s) (value-room headTag headLength s (head-parts .0)) in
       encode-is (caseOf s)
@@ -237,13 +237,13 @@ encode-decode s c bs e = let w = decodes s c e in subst (λ (d : Case). encode d
 
 -- ---- lengths
 
-pub length-rows-in : (c : Case) → Good c → length (joined rowField (rowsIn c)) ≡ c .n * (headerSize + rowLength (c .n))
+pub length-rows-in : (c : Case) → Good c → length (joined rowField (rowsIn c)) ≡ c .n * rowSize (c .n)
 length-rows-in c g =
     let r = length-row-fields (c .n) (split-sound (c .n) (c .n) _ _ _ _ (g .lists)) in
     rw (length-split (c .n) (c .n) (c .coefficients) (c .tolerances) (c .right-sides) (c .right-tolerances)) at r
 
 pub length-encode : (c : Case) → Good c
-    → length (encode c) ≡ headerSize + headLength + (c .n * (headerSize + rowLength (c .n)) + (trialSize (c .rounds) (c .n) + headerSize))
+    → length (encode c) ≡ rowsEnd (c .n) + (trialSize (c .rounds) (c .n) + headerSize)
 length-encode c g =
     rw (encode-is c)
     (simp length-append
@@ -258,9 +258,7 @@ length-encode c g =
 pub longest : (c : Case) → caseStatus c ≡ Accepted → length (encode c) ≤ longestCase
 longest c e =
     let g = good c e in
-    let k : headerSize + rowLength (c .n) ≤ 43 = omega (arith, g .small) in
-    let m : c .n * (headerSize + rowLength (c .n)) ≤ 8 * 43 = mul-le-mul (g .small) k in
-    omega (arith, length-encode c g, size (c .rounds) (c .n) (g .small))
+    omega (arith, length-encode c g, rows-fit (c .n) (g .small), size (c .rounds) (c .n) (g .small))
   where
     size : (k n : ℕ) → n ≤ 8 → trialSize k n ≤ 35
     size zero n h = omega arith

@@ -14,7 +14,7 @@ use Rattle.buffer.specs.Buffer.{onto}
 use Rattle.figures.specs.Figures.{i16, u16, i32, u32, upTo, within, figures, after, all}
 use Rattle.fields.specs.Field.{headerSize, valueOf, afterField, fieldStatus}
 use Rattle.casefile.specs.Case.{Case, headFine, coefficientLimit, toleranceLimit, rightSideLimit, rightToleranceLimit, trialLimit}
-use Rattle.casefile.specs.Layout.{joined, headTag, headLength, rowTag, rowLength, trialTag, trialLength, endTag, endLength, Row}
+use Rattle.casefile.specs.Layout.{joined, headTag, headLength, rowTag, rowLength, trialTag, trialKind, trialLength, endTag, endLength, Row}
 use Rattle.casefile.specs.declared.Case.{Case as Stored}
 use Rattle.casefile.specs.declared.Reading.{Reading}
 
@@ -66,11 +66,11 @@ afterRows n (suc m) s = afterRows n m (afterField (rowLength n) s)
 
 unfoldable pub trialStatus : ℕ → ℕ → List ℕ → Status
 trialStatus zero n s =
-    first (fieldStatus trialTag (trialLength n) s) (check (all (within trialLimit) (figures i32 n (valueOf s))) OutsideLimits)
+    first (fieldStatus trialTag (trialLength n) s) (check (all (within trialLimit) (figures trialKind n (valueOf s))) OutsideLimits)
 trialStatus (suc k) n s = Accepted
 
 unfoldable pub trialOf : ℕ → ℕ → List ℕ → List ℤ
-trialOf zero n s = figures i32 n (valueOf s)
+trialOf zero n s = figures trialKind n (valueOf s)
 trialOf (suc k) n s = []
 
 unfoldable pub afterTrial : ℕ → ℕ → List ℕ → List ℕ

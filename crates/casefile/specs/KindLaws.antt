@@ -6,6 +6,7 @@ use mir.Syntax.{w16, w32}
 use Rattle.figures.specs.Figures.{i16, u16, i32, u32, upTo, within}
 use Rattle.figures.specs.FigureLaws.{Lawful, unsigned-lawful, signed-lawful}
 use Rattle.casefile.specs.Case.{coefficientLimit, toleranceLimit, rightSideLimit, rightToleranceLimit, trialLimit}
+use Rattle.casefile.specs.Layout.{trialKind}
 
 pub coefficient-lawful : Lawful i16 (within coefficientLimit)
 coefficient-lawful = signed-lawful 2 w16 coefficientLimit refl (lit< tt)
@@ -19,5 +20,5 @@ right-side-lawful = signed-lawful 4 w32 rightSideLimit refl (lit< tt)
 pub right-tolerance-lawful : Lawful u32 (upTo rightToleranceLimit)
 right-tolerance-lawful = unsigned-lawful 4 rightToleranceLimit (lit< tt)
 
-pub trial-lawful : Lawful i32 (within trialLimit)
+pub trial-lawful : Lawful trialKind (within trialLimit)
 trial-lawful = signed-lawful 4 w32 trialLimit refl (lit< tt)

@@ -3,7 +3,7 @@ use Prim.Native.Nat.{ℕ, zero, suc, _+_, _*_}
 use mathlib.Core.List.{List, [], _∷_, _++_, map}
 use lib.ListN.{take, drop}
 use lib.IntN.{ℤ}
-use Rattle.figures.specs.Figures.{i16, u16, i32, u32, spread}
+use Rattle.figures.specs.Figures.{Kind, i16, u16, i32, u32, spread}
 use Rattle.fields.specs.Field.{headerSize, field}
 use Rattle.casefile.specs.Case.{Case}
 
@@ -28,9 +28,20 @@ rowTag = 2
 abbrev pub rowLength : ℕ → ℕ
 rowLength n = 4 * n + 8
 
+abbrev pub rowSize : ℕ → ℕ
+rowSize n = headerSize + rowLength n
+
+-- the rows stand behind the head
+abbrev pub rowsEnd : ℕ → ℕ
+rowsEnd n = headerSize + headLength + n * rowSize n
+
 -- "03, length 4n, present exactly if K is 0"
 abbrev pub trialTag : ℕ
 trialTag = 3
+
+-- "n trial figures of 4 bytes", signed
+abbrev pub trialKind : Kind ℤ
+trialKind = i32
 
 abbrev pub trialLength : ℕ → ℕ
 trialLength n = 4 * n
@@ -82,7 +93,7 @@ rowsIn c = split (c .n) (c .n) (c .coefficients) (c .tolerances) (c .right-sides
 
 -- the trial's field, where K is 0
 abbrev pub trialFields : ℕ → List ℤ → List (List ℕ)
-trialFields zero y = field trialTag (spread i32 y) ∷ []
+trialFields zero y = field trialTag (spread trialKind y) ∷ []
 trialFields (suc k) y = []
 
 -- "A case is, in this order"

@@ -17,7 +17,7 @@ use Rattle.figures.specs.FigureLaws.{and-true, length-figures, length-spread, a
 use Rattle.fields.specs.Field.{headerSize, valueOf, afterField, fieldStatus}
 use Rattle.fields.specs.FieldLaws.{field-value, field-after, field-accepted, value-room, field-is, field-room-at}
 use Rattle.casefile.specs.Case.{mostTanks, coefficientLimit, toleranceLimit, rightSideLimit, rightToleranceLimit}
-use Rattle.casefile.specs.Layout.{rowTag, rowLength, Row, rowBytes, rowField}
+use Rattle.casefile.specs.Layout.{rowTag, rowLength, rowSize, Row, rowBytes, rowField}
 use Rattle.casefile.specs.Decode.{rowOf, rowFine, rowStatus}
 use Rattle.casefile.specs.KindLaws.{coefficient-lawful, tolerance-lawful, right-side-lawful, right-tolerance-lawful}
 
@@ -141,5 +141,5 @@ module _ (n : ℕ) (s : List ℕ) (accepted : rowStatus n s ≡ Accepted) where
         rw t (field-is rowTag (rowLength n) s (two .0) bs)
 
 -- where it stands in the whole input
-pub row-room : (n : ℕ) (s : List ℕ) (at : ℕ) → rowStatus n (drop at s) ≡ Accepted → at + (headerSize + rowLength n) ≤ length s
+pub row-room : (n : ℕ) (s : List ℕ) (at : ℕ) → rowStatus n (drop at s) ≡ Accepted → at + rowSize n ≤ length s
 row-room n s at e = field-room-at rowTag (rowLength n) s at (two n (drop at s) e .0)

@@ -5,7 +5,7 @@ use mathlib.Core.List.{List, [], _∷_, _++_, append-assoc}
 use mathlib.Core.Bool.{Bool, true}
 use Prim.Native.Nat.{ℕ, zero, suc, _+_, _*_, _≤_}
 use native.Mathlib.Omega.{arith}
-use native.Mathlib.Nat.{suc-mul, zero-mul}
+use native.Mathlib.Nat.{suc-mul, zero-mul, mul-le-mul}
 use lib.ListN.{length, take, drop, length-append, length-take, length-drop, take-append-drop}
 use lib.Seq.{drop-drop, take-at, drop-at}
 use lib.IntN.{ℤ}
@@ -14,10 +14,10 @@ use Rattle.outcome.specs.Laws.{first-accepted}
 use Rattle.bigendian.specs.NumberLaws.{Bytes, bytes-drop}
 use Rattle.figures.specs.Figures.{upTo, within, all}
 use Rattle.figures.specs.FigureLaws.{all-append, all-take, all-drop}
-use Rattle.fields.specs.Field.{headerSize, valueOf, afterField}
+use Rattle.fields.specs.Field.{valueOf, afterField}
 use Rattle.fields.specs.FieldLaws.{length-field}
 use Rattle.casefile.specs.Case.{mostTanks, coefficientLimit, toleranceLimit, rightSideLimit, rightToleranceLimit}
-use Rattle.casefile.specs.Layout.{joined, rowTag, rowLength, Row, rowBytes, rowField, split}
+use Rattle.casefile.specs.Layout.{joined, rowTag, rowLength, rowSize, Row, rowBytes, rowField, split}
 use Rattle.casefile.specs.Decode.{rowOf, rowStatus, rowsStatus, rowsOf, afterRows}
 use Rattle.casefile.specs.RowLaws.{Sound, length-row, row-accepted, row-read, row-after, row-sound, row-same}
 
@@ -62,19 +62,19 @@ rows-same n (suc m) s e bs =
     let w = first-accepted (rowStatus n s) (rowsStatus n m (afterField (rowLength n) s)) e in
     let s' : List ℕ = afterField (rowLength n) s in
     append-assoc (rowField (rowOf n (valueOf s))) (joined rowField (rowsOf n m s')) (afterRows n m s')
-    ∙ rw (rows-same n m s' (w .1) (bytes-drop (headerSize + rowLength n) bs)) (row-same n s (w .0) bs)
+    ∙ rw (rows-same n m s' (w .1) (bytes-drop (rowSize n) bs)) (row-same n s (w .0) bs)
 
 pub length-rows : (n m : ℕ) (s : List ℕ) → length (rowsOf n m s) ≡ m
 unfolding rowsOf
 length-rows n zero s = refl
 length-rows n (suc m) s = ap suc (length-rows n m (afterField (rowLength n) s))
 
-pub after-rows : (n m : ℕ) (s : List ℕ) → afterRows n m s ≡ drop (m * (headerSize + rowLength n)) s
+pub after-rows : (n m : ℕ) (s : List ℕ) → afterRows n m s ≡ drop (m * rowSize n) s
 unfolding afterRows
-after-rows n zero s = rw (zero-mul (headerSize + rowLength n))
+after-rows n zero s = rw (zero-mul (rowSize n))
 after-rows n (suc m) s =
-    let k : headerSize + rowLength n + m * (headerSize + rowLength n) ≡ suc m * (headerSize + rowLength n) = omega (arith, suc-mul m (headerSize + rowLength n)) in
-    after-rows n m (afterField (rowLength n) s) ∙ drop-drop (m * (headerSize + rowLength n)) (headerSize + rowLength n) s ∙ rw k
+    let k : rowSize n + m * rowSize n ≡ suc m * rowSize n = omega (arith, suc-mul m (rowSize n)) in
+    after-rows n m (afterField (rowLength n) s) ∙ drop-drop (m * rowSize n) (rowSize n) s ∙ rw k
 
 -- ---- the figures of rows, row after row
 
@@ -89,8 +89,11 @@ module _ {X : Type 0} (n : ℕ) (f : Row → List X) where
   joined-fine p h none = refl
   joined-fine p h (one {r = r} {rs = rs} s g) = all-append p (f r) (joined f rs) (h r s) (joined-fine p h g)
 
-pub length-row-fields : (n : ℕ) {rs : List Row} → Rows n rs → length (joined rowField rs) ≡ length rs * (headerSize + rowLength n)
-length-row-fields n g = joined-length n rowField (headerSize + rowLength n) (λ r s. length-field rowTag (rowBytes r) ∙ rw (length-row n r s)) g
+pub length-row-fields : (n : ℕ) {rs : List Row} → Rows n rs → length (joined rowField rs) ≡ length rs * rowSize n
+length-row-fields n g = joined-length n rowField (rowSize n) (λ r s. length-field rowTag (rowBytes r) ∙ rw (length-row n r s)) g
+
+pub rows-fit : (n : ℕ) → n ≤ mostTanks → n * rowSize n ≤ 344
+rows-fit n small = let k : rowSize n ≤ 43 = omega arith in mul-le-mul small k
 
 -- ---- rows out of lists that stand row after row
 

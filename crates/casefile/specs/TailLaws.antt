@@ -15,12 +15,12 @@ use Rattle.outcome.specs.declared.Status.the-variants.{Accepted}
 use Rattle.outcome.specs.Laws.{check-accepted, first-accepted}
 use Rattle.bigendian.specs.Number.{be, bytes}
 use Rattle.bigendian.specs.NumberLaws.{Bytes, bytes-drop}
-use Rattle.figures.specs.Figures.{i32, within, figures, spread, all}
+use Rattle.figures.specs.Figures.{within, figures, spread, all}
 use Rattle.figures.specs.FigureLaws.{length-figures, length-spread, figures-spread, spread-figures}
 use Rattle.fields.specs.Field.{headerSize, field, valueOf, fieldStatus}
 use Rattle.fields.specs.FieldLaws.{length-field, field-value, field-after, field-accepted, value-room, field-is}
 use Rattle.casefile.specs.Case.{mostTanks, trialLimit, trialCount}
-use Rattle.casefile.specs.Layout.{joined, trialTag, trialLength, trialSize, endTag, endLength, trialFields}
+use Rattle.casefile.specs.Layout.{joined, trialTag, trialKind, trialLength, trialSize, endTag, endLength, trialFields}
 use Rattle.casefile.specs.Decode.{trialStatus, trialOf, afterTrial, endStatus}
 use Rattle.casefile.specs.KindLaws.{trial-lawful}
 
@@ -29,7 +29,7 @@ abbrev pub trialBytes : ℕ → List ℤ → List ℕ
 trialBytes k y = joined (λ f. f) (trialFields k y)
 
 pub length-trial : (k n : ℕ) (y : List ℤ) → length y ≡ trialCount k n → length (trialBytes k y) ≡ trialSize k n
-length-trial zero n y e = rw append-nil (length-field trialTag (spread i32 y) ∙ rw (length-spread i32 y, e))
+length-trial zero n y e = rw append-nil (length-field trialTag (spread trialKind y) ∙ rw (length-spread trialKind y, e))
 length-trial (suc k) n y e = refl
 
 -- ---- a trial that was written
@@ -42,14 +42,14 @@ pub record TrialBack (k n : ℕ) (y : List ℤ) (rest : List ℕ) : Type 0 where
 pub trial-back : (k n : ℕ) (y : List ℤ) (rest : List ℕ) → n ≤ mostTanks → length y ≡ trialCount k n → all (within trialLimit) y ≡ true → TrialBack k n y rest
 unfolding trialStatus trialOf afterTrial
 trial-back zero n y rest small e f =
-    let l : length (spread i32 y) ≡ 4 * n = length-spread i32 y ∙ rw e in
-    let value : figures i32 n (valueOf (field trialTag (spread i32 y) ++ rest)) ≡ y =
-    rw (field-value trialTag (spread i32 y) rest) (figures-spread i32 _ trial-lawful n y rest e f) in
-    let q = append-nil (field trialTag (spread i32 y)) in
+    let l : length (spread trialKind y) ≡ 4 * n = length-spread trialKind y ∙ rw e in
+    let value : figures trialKind n (valueOf (field trialTag (spread trialKind y) ++ rest)) ≡ y =
+    rw (field-value trialTag (spread trialKind y) rest) (figures-spread trialKind _ trial-lawful n y rest e f) in
+    let q = append-nil (field trialTag (spread trialKind y)) in
     record {
-      accepted = rw (q, field-accepted trialTag (spread i32 y) rest (trialLength n) l (omega arith), value, f);
+      accepted = rw (q, field-accepted trialTag (spread trialKind y) rest (trialLength n) l (omega arith), value, f);
       read = rw q value;
-      after = rw q (field-after trialTag (spread i32 y) rest (trialLength n) l);
+      after = rw q (field-after trialTag (spread trialKind y) rest (trialLength n) l);
     }
 trial-back (suc k) n [] rest small e f = record { accepted = refl; read = refl; after = refl }
 trial-back (suc k) n (y ∷ ys) rest small e f = absurd (omega arith)
@@ -64,17 +64,17 @@ pub trial-read : (k n : ℕ) (s : List ℕ) → trialStatus k n s ≡ Accepted �
 unfolding trialStatus trialOf all
 trial-read zero n s e =
     let w = first-accepted (fieldStatus trialTag (trialLength n) s) _ e in
-    record { count = length-figures i32 n (valueOf s); fine = check-accepted _ OutsideLimits (w .1) }
+    record { count = length-figures trialKind n (valueOf s); fine = check-accepted _ OutsideLimits (w .1) }
 trial-read (suc k) n s e = record { count = refl; fine = refl }
 
 pub trial-same : (k n : ℕ) (s : List ℕ) → trialStatus k n s ≡ Accepted → Bytes s → trialBytes k (trialOf k n s) ++ afterTrial k n s ≡ s
 unfolding trialStatus trialOf afterTrial
 trial-same zero n s e bs =
     let w = first-accepted (fieldStatus trialTag (trialLength n) s) _ e in
-    let g = spread-figures i32 _ trial-lawful n (valueOf s) (bytes-drop headerSize bs) (value-room trialTag (trialLength n) s (w .0)) in
-    let l : length (spread i32 (figures i32 n (valueOf s))) ≡ 4 * n = length-spread i32 (figures i32 n (valueOf s)) ∙ rw (length-figures i32 n (valueOf s)) in
-    let t : spread i32 (figures i32 n (valueOf s)) ≡ take (trialLength n) (valueOf s) =
-    sym (take-at (spread i32 (figures i32 n (valueOf s))) (drop (4 * n) (valueOf s)) (4 * n) l) ∙ ap (take (4 * n)) g in
+    let g = spread-figures trialKind _ trial-lawful n (valueOf s) (bytes-drop headerSize bs) (value-room trialTag (trialLength n) s (w .0)) in
+    let l : length (spread trialKind (figures trialKind n (valueOf s))) ≡ 4 * n = length-spread trialKind (figures trialKind n (valueOf s)) ∙ rw (length-figures trialKind n (valueOf s)) in
+    let t : spread trialKind (figures trialKind n (valueOf s)) ≡ take (trialLength n) (valueOf s) =
+    sym (take-at (spread trialKind (figures trialKind n (valueOf s))) (drop (4 * n) (valueOf s)) (4 * n) l) ∙ ap (take (4 * n)) g in
     rw (append-nil, t) (field-is trialTag (trialLength n) s (w .0) bs)
 trial-same (suc k) n s e bs = refl
 

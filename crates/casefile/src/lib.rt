@@ -2,7 +2,7 @@
 ghost use mathlib.Core.Path.{_≡_};
 ghost use Prim.Native.Nat.{_≤_};
 ghost use Rattle.casefile.specs.Case.{mostTanks, headFine, trialCount};
-ghost use Rattle.casefile.specs.Layout.{trialSize};
+ghost use Rattle.casefile.specs.Layout.{rowLength, rowSize, rowsEnd, trialLength, trialSize};
 use outcome::Status;
 
 // Document 01, "Figures".
@@ -30,6 +30,10 @@ pub const ROW_TAG: u8 = 2;
 pub const TRIAL_TAG: u8 = 3;
 
 pub const END_TAG: u8 = 255;
+
+pub const HEAD_LENGTH: usize = 3;
+
+pub const END_LENGTH: usize = 0;
 
 pub const LONGEST_CASE: usize = 388;
 
@@ -84,13 +88,45 @@ pub fn trial_count(rounds: usize, n: usize) -> usize
     if rounds == 0 { n } else { 0 }
 }
 
+// The length of a row's value: four bytes a tank, and eight.
+pub fn row_length(n: usize) -> usize
+    requires { ⌜ n ≤ mostTanks ⌝ }
+    ensures { λ r. ⌜ r ≡ rowLength n ⌝ }
+{
+    4 * n + 8
+}
+
+// The bytes of a row's field, header and value.
+pub fn row_size(n: usize) -> usize
+    requires { ⌜ n ≤ mostTanks ⌝ }
+    ensures { λ r. ⌜ r ≡ rowSize n ⌝ }
+{
+    fields::HEADER_SIZE + row_length(n)
+}
+
+// Where the rows end, and what follows them begins.
+pub fn rows_end(n: usize) -> usize
+    requires { ⌜ n ≤ mostTanks ⌝ }
+    ensures { λ r. ⌜ r ≡ rowsEnd n ⌝ }
+{
+    ROWS_AT + n * row_size(n)
+}
+
+// The length of the trial's value: n figures of four bytes.
+pub fn trial_length(n: usize) -> usize
+    requires { ⌜ n ≤ mostTanks ⌝ }
+    ensures { λ r. ⌜ r ≡ trialLength n ⌝ }
+{
+    n * 4
+}
+
 // The bytes of the trial's field, header and value: none where K is above 0.
 pub fn trial_size(rounds: usize, n: usize) -> usize
     requires { ⌜ n ≤ mostTanks ⌝ }
     ensures { λ r. ⌜ r ≡ trialSize rounds n ⌝ }
 {
     if rounds == 0 {
-        fields::HEADER_SIZE + 4 * n
+        fields::HEADER_SIZE + trial_length(n)
     } else {
         0
     }

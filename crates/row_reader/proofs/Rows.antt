@@ -15,8 +15,8 @@ use Rattle.outcome.specs.declared.Status.the-variants.{Accepted, Refused}
 use Rattle.outcome.specs.Laws.{first-stops, first-goes-on, not-both}
 use Rattle.buffer.specs.Buffer.{onto}
 use Rattle.buffer.specs.Laws.{filled, length-onto}
-use Rattle.fields.specs.Field.{headerSize, valueOf}
-use Rattle.casefile.specs.Layout.{joined, rowLength, Row}
+use Rattle.fields.specs.Field.{valueOf}
+use Rattle.casefile.specs.Layout.{joined, rowSize, Row}
 use Rattle.casefile.specs.Decode.{rowOf, rowStatus, rowsStatus, rowsOf}
 use Rattle.casefile.specs.RowLaws.{row-sound, row-room}
 use Rattle.casefile.specs.CaseLaws.{joined-append}
@@ -115,27 +115,28 @@ module _ (s : List ℕ) (at n : ℕ) (a₀ : List ℤ) (t₀ : List ℕ) (b₀ :
         }
 
     -- the next row is whole
-    pub past : (x : Status) → x ≡ rowStatus n (drop p s) → x ≡ Accepted → p + (headerSize + rowLength n) ≤ length s
+    pub past : (x : Status) → x ≡ rowStatus n (drop p s) → x ≡ Accepted → p + rowSize n ≤ length s
     past x e g = row-room n s p (sym e ∙ g)
 
-    pub turn : i < n → {x : Status} {ra : List ℤ} {rt : List ℕ} {rb : List ℤ} {rf : List ℕ} → RowRead n (drop p s) x ra rt rb rf → x ≡ Accepted
+    pub turn : i < n → {size : ℕ} → size ≡ rowSize n → {x : Status} {ra : List ℤ} {rt : List ℕ} {rb : List ℤ} {rf : List ℕ} → RowRead n (drop p s) x ra rt rb rf → x ≡ Accepted
         → Reading (putMid from (from + n - from) a ra) (putMid from (from + n - from) t rt) (putMid i (i + 1 - i) b rb) (putMid i (i + 1 - i) f rf)
-        (i + 1) (from + n) (p + (headerSize + rowLength n))
+        (i + 1) (from + n) (p + size)
     unfolding rowsStatus rowsOf
-    turn h {x} {ra} {rt} {rb} {rf} w g =
+    turn h e {x} {ra} {rt} {rb} {rf} w g =
         let acc : rowStatus n (drop p s) ≡ Accepted = sym (w .status) ∙ g in
         let row : Row = rowOf n (valueOf (drop p s)) in
         let so = row-sound n (drop p s) acc in
         let is : rowMade ra rt rb rf ≡ rowOf n (valueOf (drop p s)) = w .made g in
         let z : rowsStatus n (suc (n - (i + 1))) (drop p s) ≡ rowsStatus n n (drop at s) = rw (more h) at (r .status) in
         let y : r .done ++ rowsOf n (suc (n - (i + 1))) (drop p s) ≡ rowsOf n n (drop at s) = rw (more h) at (r .rest) in
-        let d = drop-drop (headerSize + rowLength n) p s in
+        let d = drop-drop (rowSize n) p s in
         let N = next h in
         let fa' = fill (λ r. r .coefficients) (r .done) row from n (from + n) a₀ a ra (r .fa) (so .coefficient-count) refl (ap (λ r. r .coefficients) is) in
         let ft' = fill (λ r. r .tolerances) (r .done) row from n (from + n) t₀ t rt (r .ft) (so .tolerance-count) refl (ap (λ r. r .tolerances) is) in
         let fb' = fill (λ r. r .right-side) (r .done) row i 1 (i + 1) b₀ b rb (r .fb) (so .right-count) refl (ap (λ r. r .right-side) is) in
         let ff' = fill (λ r. r .right-tolerance) (r .done) row i 1 (i + 1) f₀ f rf (r .ff) (so .right-tolerance-count) refl (ap (λ r. r .right-tolerance) is) in
-        record {
+        rw e
+        (record {
           room = r .room;
           here = past x (w .status) g;
           count = omega arith;
@@ -150,8 +151,8 @@ module _ (s : List ℕ) (at n : ℕ) (a₀ : List ℤ) (t₀ : List ℕ) (b₀ :
           fb = fb';
           ff = ff';
           status = rw (← d) (first-goes-on (rowStatus n (drop p s)) _ acc ∙ z);
-          rest = rw (← d, append-snoc (r .done) row (rowsOf n (n - (i + 1)) (drop (headerSize + rowLength n) (drop p s)))) y;
-        }
+          rest = rw (← d, append-snoc (r .done) row (rowsOf n (n - (i + 1)) (drop (rowSize n) (drop p s)))) y;
+        })
 
     pub ended : n ≤ i → RowsRead n (drop at s) Accepted a₀ a t₀ t b₀ b f₀ f
     unfolding rowsStatus rowsOf

@@ -46,7 +46,7 @@ fn read_row(
     requires { ⌜ RowRoom n (now a) (now t) (now b) (now f) ⌝ }
     ensures { λ r. ⌜ RowRead n (drop at (now (s .entry))) r (now (a .exit)) (now (t .exit)) (now (b .exit)) (now (f .exit)) ⌝ }
 {
-    let field = fields::check_field(s, at, casefile::ROW_TAG, 4 * n + 8);
+    let field = fields::check_field(s, at, casefile::ROW_TAG, casefile::row_length(n));
     if let Status::Refused(_) = field {
         return field;
     }
@@ -72,6 +72,7 @@ pub fn read_rows(
     requires { ⌜ RowsRoom n (now a) (now t) (now b) (now f) ⌝ }
     ensures { λ r. ⌜ RowsRead n (drop at (now (s .entry))) r (now (a .entry)) (now (a .exit)) (now (t .entry)) (now (t .exit)) (now (b .entry)) (now (b .exit)) (now (f .entry)) (now (f .exit)) ⌝ }
 {
+    let size = casefile::row_size(n);
     let mut i = 0;
     let mut from = 0;
     let mut p = at;
@@ -92,7 +93,7 @@ pub fn read_rows(
         }
         i = next;
         from = to;
-        p += HEADER_SIZE + (4 * n + 8);
+        p += size;
     }
     Status::Accepted
 }

@@ -1,15 +1,14 @@
 -- What the functions on rows ask: room in the buffer, and lists that have the counts due.
 use mathlib.Core.Path.{_≡_}
 use mathlib.Core.List.{List}
-use Prim.Native.Nat.{ℕ, _+_, _*_, _≤_}
+use Prim.Native.Nat.{ℕ, _*_, _≤_}
 use lib.ListN.{length}
 use lib.IntN.{ℤ}
-use Rattle.fields.specs.Field.{headerSize}
 use Rattle.casefile.specs.Case.{mostTanks}
-use Rattle.casefile.specs.Layout.{rowLength, Row}
+use Rattle.casefile.specs.Layout.{rowSize, Row}
 
 pub record RowRoom (out : List ℕ) (a : List ℤ) (t : List ℕ) (b : List ℤ) (f : List ℕ) : Type 0 where
-  pub room : headerSize + rowLength (length a) ≤ length out
+  pub room : rowSize (length a) ≤ length out
   pub small : length a ≤ mostTanks
   pub lt : length t ≡ length a
   pub lb : length b ≡ 1
@@ -19,7 +18,7 @@ abbrev pub rowMade : List ℤ → List ℕ → List ℤ → List ℕ → Row
 rowMade a t b f = record { coefficients = a; tolerances = t; right-side = b; right-tolerance = f }
 
 pub record RowsRoom (out : List ℕ) (n : ℕ) (a : List ℤ) (t : List ℕ) (b : List ℤ) (f : List ℕ) : Type 0 where
-  pub room : n * (headerSize + rowLength n) ≤ length out
+  pub room : n * rowSize n ≤ length out
   pub small : n ≤ mostTanks
   pub la : length a ≡ n * n
   pub lt : length t ≡ n * n

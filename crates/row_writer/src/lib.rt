@@ -14,7 +14,7 @@ fn write_row(out: &mut [u8], a: &[i16], t: &[u16], b: &[i32], f: &[u32])
     let tolerances = HEADER_SIZE + 2 * n;
     let right_side = tolerances + 2 * n;
     let right_tolerance = right_side + 4;
-    fields::write_header(out, casefile::ROW_TAG, (4 * n + 8) as u16);
+    fields::write_header(out, casefile::ROW_TAG, casefile::row_length(n) as u16);
     figures::write_i16s(&mut out[HEADER_SIZE..], a);
     figures::write_u16s(&mut out[tolerances..], t);
     figures::write_i32s(&mut out[right_side..], b);
@@ -26,6 +26,7 @@ pub fn write_rows(out: &mut [u8], n: usize, a: &[i16], t: &[u16], b: &[i32], f: 
     requires { ⌜ RowsRoom (now out) n (now a) (now t) (now b) (now f) ⌝ }
     ensures { λ _. ⌜ now (out .exit) ≡ onto (joined rowField (split n n (now (a .entry)) (now (t .entry)) (now (b .entry)) (now (f .entry)))) (now (out .entry)) ⌝ }
 {
+    let size = casefile::row_size(n);
     let mut i = 0;
     let mut from = 0;
     let mut p = 0;
@@ -41,6 +42,6 @@ pub fn write_rows(out: &mut [u8], n: usize, a: &[i16], t: &[u16], b: &[i32], f: 
         );
         i = next;
         from = to;
-        p += HEADER_SIZE + (4 * n + 8);
+        p += size;
     }
 }

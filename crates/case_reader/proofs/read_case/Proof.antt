@@ -1,19 +1,42 @@
 -- `case_reader::read_case` meets its contract: each refusal of a part is the whole's, and without one the arrays hold the case.
 -- Assumes nothing.
-use Prim.Native.Nat.{ℕ, zero, suc, _+_, _*_, _≤_}
+use Prim.Native.Nat.{ℕ, zero, suc, _≤_}
 use native.Mathlib.Omega.{arith}
 use native.Mathlib.Nat.{mul-le-mul}
-use mathlib.Core.Path.{sym, _∙_}
+use mathlib.Core.List.{List}
+use mathlib.Core.Path.{_≡_, sym, _∙_}
+use lib.ListN.{drop}
 use denote.Ref.{now}
+use Rattle.outcome.specs.declared.Status.the-variants.{Accepted}
 use Rattle.casefile.specs.Layout.{trialSize}
-use Rattle.case_reader.proofs.Whole.{n, rounds, head, head-stops, rows-stop, trial-stops, end-stops, whole}
+use Rattle.casefile.specs.Decode.{headStatus, rowsStatus, trialStatus}
+use Rattle.casefile.specs.RowsLaws.{rows-fit}
+use Rattle.case_reader.proofs.Whole.{n, rounds, tail, head, head-stops, rows-stop, trial-stops, end-stops, whole}
 use borrow.Author.Needs.{needs}
 use Rattle.case_reader.proofs.read_case.Statement.{statement}
 use Rattle.case_reader.proofs.read_case.Tie as tie
 
--- products that do not wrap
-square : (m : ℕ) → m ≤ 8 → (m * (3 + (4 * m + 8)) ≤ 8 * 43) × (m * m ≤ 8 * 8)
-square m h = let k : 3 + (4 * m + 8) ≤ 43 = omega arith in (mul-le-mul h k, mul-le-mul h h)
+-- what is known of the input where the head, the rows and the trial are accepted
+module _ (h : tie.After-enum-told) where
+  abbrev s : List ℕ
+  s = now (h .before .before .before .before .args .s)
+
+  head-fine : headStatus s ≡ Accepted
+  head-fine = sym (h .before .before .read-head .ensures) ∙ h .enum-told .given .1
+
+module _ (r : tie.After-enum-told2) where
+  abbrev after-head : tie.After-enum-told
+  after-head = r .before .before .before .before .before .before .before .before .before .before .before .before .before .before
+
+  rows-fine : rowsStatus (n (s after-head)) (n (s after-head)) (drop 6 (s after-head)) ≡ Accepted
+  rows-fine = sym (r .before .before .before .before .before .before .read-rows .ensures .status) ∙ r .enum-told2 .given .1
+
+module _ (t : tie.After-enum-told3) where
+  abbrev after-rows : tie.After-enum-told2
+  after-rows = t .before .before .before .before .before .before
+
+  trial-fine : let x = s (after-head after-rows) in trialStatus (rounds x) (n x) (drop (tail x) x) ≡ Accepted
+  trial-fine = sym (rw (t .before .before .before .before .before .rows-end .ensures) at (t .before .before .before .read-trial .ensures .status)) ∙ t .enum-told3 .given .1
 
 size : (k m : ℕ) → m ≤ 8 → trialSize k m ≤ 35
 size zero m h = omega arith
@@ -35,19 +58,19 @@ enum-told : tie.Need-enum-told
 enum-told c = search needs
 
 shared-slice-read-n : tie.Need-shared-slice-read-n
-shared-slice-read-n c = omega (arith, head (now (c .before .before .before .before .before .args .s)) (sym (c .before .before .before .read-head .ensures) ∙ c .before .enum-told .given .1))
+shared-slice-read-n c = omega (arith, head _ (head-fine (c .before)))
 
 cast-n : tie.Need-cast-n
 cast-n c = omega (arith, c .before .before .before .before .shared-slice-known .given 3)
 
 shared-slice-read-exponent : tie.Need-shared-slice-read-exponent
-shared-slice-read-exponent c = omega (arith, head (now (c .before .before .before .before .before .before .args .s)) (sym (c .before .before .before .before .read-head .ensures) ∙ c .before .before .enum-told .given .1))
+shared-slice-read-exponent c = omega (arith, head _ (head-fine (c .before .before)))
 
 cast-exponent : tie.Need-cast-exponent
 cast-exponent c = omega (arith, c .before .before .before .before .before .shared-slice-known .given 4)
 
 shared-slice-read-rounds : tie.Need-shared-slice-read-rounds
-shared-slice-read-rounds c = omega (arith, head (now (c .before .before .before .before .before .before .before .args .s)) (sym (c .before .before .before .before .before .read-head .ensures) ∙ c .before .before .before .enum-told .given .1))
+shared-slice-read-rounds c = omega (arith, head _ (head-fine (c .before .before .before)))
 
 cast-rounds : tie.Need-cast-rounds
 cast-rounds c = omega (arith, c .before .before .before .before .before .before .shared-slice-known .given 5)
@@ -65,9 +88,8 @@ slice-aggregate-read-rows-4 : tie.Need-slice-aggregate-read-rows-4
 slice-aggregate-read-rows-4 c = search needs
 
 read-rows-requires : tie.Need-read-rows-requires
-read-rows-requires c κs = let s = now (c .before .before .before .before .before .before .before .before .before .before .before .args .s) in
-    let h = sym (c .before .before .before .before .before .before .before .before .before .read-head .ensures) ∙ c .before .before .before .before .before .before .before .enum-told .given .1 in
-    omega (arith, head s h, square (n s) (head s h .small))
+read-rows-requires c κs = let g = head _ (head-fine (c .before .before .before .before .before .before .before)) in
+    omega (arith, g, mul-le-mul (g .small) (g .small))
 
 enum-known-rows : tie.Need-enum-known-rows
 enum-known-rows c = search needs
@@ -76,45 +98,20 @@ refused-requires-2 : tie.Need-refused-requires-2
 refused-requires-2 c κs = search needs
 
 returns-2 : tie.Need-returns-2
-returns-2 c = let s = now (c .before .before .before .before .before .before .before .before .before .before .before .before .before .before .before .before .before .before .before .before .args .s) in
-    let h = sym (c .before .before .before .before .before .before .before .before .before .before .before .before .before .before .before .before .before .before .read-head .ensures) ∙ c .before .before .before .before .before .before .before .before .before .before .before .before .before .before .before .before .enum-told .given .1 in
-    c .refused2 .ensures ∙ rows-stop s h _ (sym (c .before .before .before .before .before .before .before .before .read-rows .ensures .status) ∙ c .before .before .rows .given .1)
+returns-2 c = let h = c .before .before .before .before .before .before .before .before .before .before .before .before .before .before .before .before in
+    c .refused2 .ensures ∙ rows-stop (s h) (head-fine h) _ (sym (c .before .before .before .before .before .before .before .before .read-rows .ensures .status) ∙ c .before .before .rows .given .1)
 
 enum-told-2 : tie.Need-enum-told-2
 enum-told-2 c = search needs
 
-mul-tail : tie.Need-mul-tail
-mul-tail c = let s = now (c .before .before .before .before .before .before .before .before .before .before .before .before .before .before .before .before .before .before .args .s) in
-    let h = sym (c .before .before .before .before .before .before .before .before .before .before .before .before .before .before .before .before .read-head .ensures) ∙ c .before .before .before .before .before .before .before .before .before .before .before .before .before .before .enum-told .given .1 in
-    omega (arith, head s h, square (n s) (head s h .small))
-
-add-tail : tie.Need-add-tail
-add-tail c = let s = now (c .before .before .before .before .before .before .before .before .before .before .before .before .before .before .before .before .before .before .args .s) in
-    let h = sym (c .before .before .before .before .before .before .before .before .before .before .before .before .before .before .before .before .read-head .ensures) ∙ c .before .before .before .before .before .before .before .before .before .before .before .before .before .before .enum-told .given .1 in
-    omega (arith, head s h, square (n s) (head s h .small))
-
-add-tail-2 : tie.Need-add-tail-2
-add-tail-2 c = let s = now (c .before .before .before .before .before .before .before .before .before .before .before .before .before .before .before .before .before .before .args .s) in
-    let h = sym (c .before .before .before .before .before .before .before .before .before .before .before .before .before .before .before .before .read-head .ensures) ∙ c .before .before .before .before .before .before .before .before .before .before .before .before .before .before .enum-told .given .1 in
-    omega (arith, head s h, square (n s) (head s h .small))
-
-mul-tail-2 : tie.Need-mul-tail-2
-mul-tail-2 c = let s = now (c .before .before .before .before .before .before .before .before .before .before .before .before .before .before .before .before .before .before .args .s) in
-    let h = sym (c .before .before .before .before .before .before .before .before .before .before .before .before .before .before .before .before .read-head .ensures) ∙ c .before .before .before .before .before .before .before .before .before .before .before .before .before .before .enum-told .given .1 in
-    omega (arith, head s h, square (n s) (head s h .small))
-
-add-tail-3 : tie.Need-add-tail-3
-add-tail-3 c = let s = now (c .before .before .before .before .before .before .before .before .before .before .before .before .before .before .before .before .before .before .args .s) in
-    let h = sym (c .before .before .before .before .before .before .before .before .before .before .before .before .before .before .before .before .read-head .ensures) ∙ c .before .before .before .before .before .before .before .before .before .before .before .before .before .before .enum-told .given .1 in
-    omega (arith, head s h, square (n s) (head s h .small))
+rows-end-requires : tie.Need-rows-end-requires
+rows-end-requires c κs = omega (arith, head _ (head-fine (after-head c)))
 
 slice-aggregate-read-trial : tie.Need-slice-aggregate-read-trial
 slice-aggregate-read-trial c = search needs
 
 read-trial-requires : tie.Need-read-trial-requires
-read-trial-requires c κs = let s = now (c .before .before .before .before .before .before .before .before .before .before .before .before .before .before .before .before .before .before .before .args .s) in
-    let h = sym (c .before .before .before .before .before .before .before .before .before .before .before .before .before .before .before .before .before .read-head .ensures) ∙ c .before .before .before .before .before .before .before .before .before .before .before .before .before .before .before .enum-told .given .1 in
-    omega (arith, head s h, square (n s) (head s h .small))
+read-trial-requires c κs = omega (arith, head _ (head-fine (c .before .before .before .before .before .before .before .before .before .before .before .before .before .before .before .before)))
 
 enum-known-brought : tie.Need-enum-known-brought
 enum-known-brought c = search needs
@@ -123,24 +120,19 @@ refused-requires-3 : tie.Need-refused-requires-3
 refused-requires-3 c κs = search needs
 
 returns-3 : tie.Need-returns-3
-returns-3 c = let s = now (c .before .before .before .before .before .before .before .before .before .before .before .before .before .before .before .before .before .before .before .before .before .before .before .before .before .args .s) in
-    let h = sym (c .before .before .before .before .before .before .before .before .before .before .before .before .before .before .before .before .before .before .before .before .before .before .before .read-head .ensures) ∙ c .before .before .before .before .before .before .before .before .before .before .before .before .before .before .before .before .before .before .before .before .before .enum-told .given .1 in
-    let r = sym (c .before .before .before .before .before .before .before .before .before .before .before .before .before .read-rows .ensures .status) ∙ c .before .before .before .before .before .before .before .enum-told2 .given .1 in
-    c .refused3 .ensures ∙ trial-stops s h r _ (sym (c .before .before .before .before .before .read-trial .ensures .status) ∙ c .before .before .brought .given .1)
+returns-3 c = let r = c .before .before .before .before .before .before .before .before in
+    let status = rw (c .before .before .before .before .before .before .before .rows-end .ensures) at (c .before .before .before .before .before .read-trial .ensures .status) in
+    c .refused3 .ensures ∙ trial-stops _ (head-fine (after-head r)) (rows-fine r) _ (sym status ∙ c .before .before .brought .given .1)
 
 enum-told-3 : tie.Need-enum-told-3
 enum-told-3 c = search needs
 
 trial-size-requires : tie.Need-trial-size-requires
-trial-size-requires c κs = let s = now (c .before .before .before .before .before .before .before .before .before .before .before .before .before .before .before .before .before .before .before .before .before .before .before .args .s) in
-    let h = sym (c .before .before .before .before .before .before .before .before .before .before .before .before .before .before .before .before .before .before .before .before .before .read-head .ensures) ∙ c .before .before .before .before .before .before .before .before .before .before .before .before .before .before .before .before .before .before .before .enum-told .given .1 in
-    omega (arith, head s h, square (n s) (head s h .small))
+trial-size-requires c κs = head _ (head-fine (after-head (after-rows c))) .small
 
 add-read-end : tie.Need-add-read-end
-add-read-end c = let s = now (c .before .before .before .before .before .before .before .before .before .before .before .before .before .before .before .before .before .before .before .before .before .before .before .before .args .s) in
-    let h = sym (c .before .before .before .before .before .before .before .before .before .before .before .before .before .before .before .before .before .before .before .before .before .before .read-head .ensures) ∙ c .before .before .before .before .before .before .before .before .before .before .before .before .before .before .before .before .before .before .before .before .enum-told .given .1 in
-    let q = size (rounds s) (n s) (head s h .small) in
-    omega (arith, q, square (n s) (head s h .small), c .trial-size .ensures)
+add-read-end c = let small = head _ (head-fine (c .before .before .before .before .before .before .before .before .before .before .before .before .before .before .before .before .before .before .before .before .before)) .small in
+    omega (arith, rows-fit _ small, size (rounds (s (c .before .before .before .before .before .before .before .before .before .before .before .before .before .before .before .before .before .before .before .before .before))) _ small, c .before .before .before .before .before .before .rows-end .ensures, c .trial-size .ensures)
 
 read-end-requires : tie.Need-read-end-requires
 read-end-requires c κs = search needs
@@ -152,22 +144,20 @@ refused-requires-4 : tie.Need-refused-requires-4
 refused-requires-4 c κs = search needs
 
 returns-4 : tie.Need-returns-4
-returns-4 c = let s = now (c .before .before .before .before .before .before .before .before .before .before .before .before .before .before .before .before .before .before .before .before .before .before .before .before .before .before .before .before .before .args .s) in
-    let h = sym (c .before .before .before .before .before .before .before .before .before .before .before .before .before .before .before .before .before .before .before .before .before .before .before .before .before .before .before .read-head .ensures) ∙ c .before .before .before .before .before .before .before .before .before .before .before .before .before .before .before .before .before .before .before .before .before .before .before .before .before .enum-told .given .1 in
-    let r = sym (c .before .before .before .before .before .before .before .before .before .before .before .before .before .before .before .before .before .read-rows .ensures .status) ∙ c .before .before .before .before .before .before .before .before .before .before .before .enum-told2 .given .1 in
-    let t = sym (c .before .before .before .before .before .before .before .before .before .read-trial .ensures .status) ∙ c .before .before .before .before .before .before .enum-told3 .given .1 in
-    c .refused4 .ensures ∙ end-stops s h r t _ (sym (rw (c .before .before .before .before .before .trial-size .ensures) at (c .before .before .before .before .read-end .ensures)) ∙ c .before .before .end .given .1)
+returns-4 c = let t = c .before .before .before .before .before .before in
+    let r = after-rows t in
+    let status = rw (c .before .before .before .before .before .before .before .before .before .before .before .rows-end .ensures, c .before .before .before .before .before .trial-size .ensures) at (c .before .before .before .before .read-end .ensures) in
+    c .refused4 .ensures ∙ end-stops _ (head-fine (after-head r)) (rows-fine r) (trial-fine t) _ (sym status ∙ c .before .before .end .given .1)
 
 enum-told-4 : tie.Need-enum-told-4
 enum-told-4 c = search needs
 
 returns-5 : tie.Need-returns-5
-returns-5 c = let s = now (c .before .before .before .before .before .before .before .before .before .before .before .before .before .before .before .before .before .before .before .before .before .before .before .before .before .before .before .args .s) in
-    let h = sym (c .before .before .before .before .before .before .before .before .before .before .before .before .before .before .before .before .before .before .before .before .before .before .before .before .before .read-head .ensures) ∙ c .before .before .before .before .before .before .before .before .before .before .before .before .before .before .before .before .before .before .before .before .before .before .before .enum-told .given .1 in
-    let r = sym (c .before .before .before .before .before .before .before .before .before .before .before .before .before .before .before .read-rows .ensures .status) ∙ c .before .before .before .before .before .before .before .before .before .enum-told2 .given .1 in
-    let t = sym (c .before .before .before .before .before .before .before .read-trial .ensures .status) ∙ c .before .before .before .before .enum-told3 .given .1 in
-    let e = sym (rw (c .before .before .before .trial-size .ensures) at (c .before .before .read-end .ensures)) ∙ c .enum-told4 .given .1 in
-    whole s h r t e _ _ _ _ _ (c .before .before .before .before .before .before .before .before .before .before .before .before .before .before .before .read-rows .ensures .made (c .before .before .before .before .before .before .before .before .before .enum-told2 .given .1)) (c .before .before .before .before .before .before .before .read-trial .ensures .made (c .before .before .before .before .enum-told3 .given .1))
+returns-5 c = let t = c .before .before .before .before in
+    let r = after-rows t in
+    let status = rw (c .before .before .before .before .before .before .before .before .before .rows-end .ensures, c .before .before .before .trial-size .ensures) at (c .before .before .read-end .ensures) in
+    let trial = rw (c .before .before .before .before .before .before .before .before .before .rows-end .ensures) at (c .before .before .before .before .before .before .before .read-trial .ensures .made (t .enum-told3 .given .1)) in
+    whole _ (head-fine (after-head r)) (rows-fine r) (trial-fine t) (sym status ∙ c .enum-told4 .given .1) _ _ _ _ _ (c .before .before .before .before .before .before .before .before .before .before .before .before .before .before .before .before .read-rows .ensures .made (r .enum-told2 .given .1)) trial
 
 pub read-case-spec : {M : Type 1} → statement M
 read-case-spec =
@@ -193,11 +183,7 @@ read-case-spec =
     refused-requires-2
     returns-2
     enum-told-2
-    mul-tail
-    add-tail
-    add-tail-2
-    mul-tail-2
-    add-tail-3
+    rows-end-requires
     slice-aggregate-read-trial
     read-trial-requires
     enum-known-brought

@@ -8,6 +8,9 @@ use borrow.Author.Needs.{needs}
 use Rattle.case_writer.proofs.write_head.Statement.{statement}
 use Rattle.case_writer.proofs.write_head.Tie as tie
 
+cast-write-header : tie.Need-cast-write-header
+cast-write-header c = search needs
+
 write-header-requires : tie.Need-write-header-requires
 write-header-requires c κs = search needs
 
@@ -40,6 +43,7 @@ pub write-head-spec : {M : Type 1} → statement M
 write-head-spec =
     tie.close
     (tie.spec
+    cast-write-header
     write-header-requires
     cast-out
     slice-write-out

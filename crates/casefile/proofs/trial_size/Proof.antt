@@ -11,17 +11,17 @@ none : (k n : ℕ) → (k ≡ 0 → ⊥) → 0 ≡ trialSize k n
 none zero n h = absurd (h refl)
 none (suc k) n h = refl
 
-mul-result : tie.Need-mul-result
-mul-result c = search needs
+trial-length-requires : tie.Need-trial-length-requires
+trial-length-requires c κs = search needs
 
 add-result : tie.Need-add-result
 add-result c = search needs
 
 returns : tie.Need-returns
-returns c = rw (c .if1 .taken)
+returns c = rw (c .before .if1 .taken, c .trial-length .ensures)
 
 returns-2 : tie.Need-returns-2
 returns-2 c = none _ _ (c .if1 .left)
 
 pub trial-size-spec : {M : Type 1} → statement M
-trial-size-spec = tie.close (tie.spec mul-result add-result returns returns-2)
+trial-size-spec = tie.close (tie.spec trial-length-requires add-result returns returns-2)

@@ -8,85 +8,88 @@ use Rattle.row_reader.proofs.read_rows.Statement.{statement}
 use Rattle.row_reader.proofs.read_rows.Tie as tie
 
 abbrev Inv-loop : tie.InvT-loop
-Inv-loop s at n a₀ t₀ b₀ f₀ i₀ from₀ p₀ a t b f i from p = Reading s at n a₀ t₀ b₀ f₀ a t b f i from p
+Inv-loop s at n a₀ t₀ b₀ f₀ size i₀ from₀ p₀ a t b f i from p = Reading s at n a₀ t₀ b₀ f₀ a t b f i from p
 
 abbrev μ-loop : tie.MeasureT-loop
-μ-loop s at n a₀ t₀ b₀ f₀ i₀ from₀ p₀ a t b f i from p = n - i
+μ-loop s at n a₀ t₀ b₀ f₀ size i₀ from₀ p₀ a t b f i from p = n - i
+
+row-size-requires : tie.Need-row-size-requires Inv-loop μ-loop
+row-size-requires c κs = search needs
 
 loop-holds : tie.Need-loop-holds Inv-loop μ-loop
-loop-holds c = begun _ _ _ _ _ _ _ (c .before .before .before .pre .0) (c .before .before .before .pre .1)
+loop-holds c = begun _ _ _ _ _ _ _ (c .before .before .before .before .pre .0) (c .before .before .before .before .pre .1)
 
 add-to : tie.Need-add-to Inv-loop μ-loop
 add-to c = let N = next _ _ _ _ _ _ _ (c .before .loop .inv) (c .loop-test .taken) in
-    omega (arith, N, c .before .before .before .before .before .good)
+    omega (arith, N, c .before .before .before .before .before .before .good)
 
 add-next : tie.Need-add-next Inv-loop μ-loop
 add-next c = let N = next _ _ _ _ _ _ _ (c .before .loop .inv) (c .loop-test .taken) in
-    omega (arith, N, c .before .before .before .before .before .good)
+    omega (arith, N, c .before .before .before .before .before .before .good)
 
 mul-read-row : tie.Need-mul-read-row Inv-loop μ-loop
 mul-read-row c = let N = next _ _ _ _ _ _ _ (c .before .loop .inv) (c .loop-test .taken) in
-    omega (arith, N, c .before .before .before .before .before .good)
+    omega (arith, N, c .before .before .before .before .before .before .good)
 
 sub-read-row : tie.Need-sub-read-row Inv-loop μ-loop
 sub-read-row c = let N = next _ _ _ _ _ _ _ (c .before .loop .inv) (c .loop-test .taken) in
-    omega (arith, N, c .before .before .before .before .before .good)
+    omega (arith, N, c .before .before .before .before .before .before .good)
 
 part-read-row-start : tie.Need-part-read-row-start Inv-loop μ-loop
 part-read-row-start c = let N = next _ _ _ _ _ _ _ (c .before .loop .inv) (c .loop-test .taken) in
-    omega (arith, N, c .before .before .before .before .before .good)
+    omega (arith, N, c .before .before .before .before .before .before .good)
 
 part-read-row-end : tie.Need-part-read-row-end Inv-loop μ-loop
 part-read-row-end c = let N = next _ _ _ _ _ _ _ (c .before .loop .inv) (c .loop-test .taken) in
-    omega (arith, N, c .before .before .before .before .before .good)
+    omega (arith, N, c .before .before .before .before .before .before .good)
 
 mul-read-row-2 : tie.Need-mul-read-row-2 Inv-loop μ-loop
 mul-read-row-2 c = let N = next _ _ _ _ _ _ _ (c .before .before .loop .inv) (c .before .loop-test .taken) in
-    omega (arith, N, c .before .before .before .before .before .before .good)
+    omega (arith, N, c .before .before .before .before .before .before .before .good)
 
 sub-read-row-2 : tie.Need-sub-read-row-2 Inv-loop μ-loop
 sub-read-row-2 c = let N = next _ _ _ _ _ _ _ (c .before .before .loop .inv) (c .before .loop-test .taken) in
-    omega (arith, N, c .before .before .before .before .before .before .good)
+    omega (arith, N, c .before .before .before .before .before .before .before .good)
 
 part-read-row-start-2 : tie.Need-part-read-row-start-2 Inv-loop μ-loop
 part-read-row-start-2 c = let N = next _ _ _ _ _ _ _ (c .before .before .loop .inv) (c .before .loop-test .taken) in
-    omega (arith, N, c .before .before .before .before .before .before .good)
+    omega (arith, N, c .before .before .before .before .before .before .before .good)
 
 part-read-row-end-2 : tie.Need-part-read-row-end-2 Inv-loop μ-loop
 part-read-row-end-2 c = let N = next _ _ _ _ _ _ _ (c .before .before .loop .inv) (c .before .loop-test .taken) in
-    omega (arith, N, c .before .before .before .before .before .before .good)
+    omega (arith, N, c .before .before .before .before .before .before .before .good)
 
 mul-read-row-3 : tie.Need-mul-read-row-3 Inv-loop μ-loop
 mul-read-row-3 c = let N = next _ _ _ _ _ _ _ (c .before .before .before .loop .inv) (c .before .before .loop-test .taken) in
-    omega (arith, N, c .before .before .before .before .before .before .before .good)
+    omega (arith, N, c .before .before .before .before .before .before .before .before .good)
 
 sub-read-row-3 : tie.Need-sub-read-row-3 Inv-loop μ-loop
 sub-read-row-3 c = let N = next _ _ _ _ _ _ _ (c .before .before .before .loop .inv) (c .before .before .loop-test .taken) in
-    omega (arith, N, c .before .before .before .before .before .before .before .good)
+    omega (arith, N, c .before .before .before .before .before .before .before .before .good)
 
 part-read-row-start-3 : tie.Need-part-read-row-start-3 Inv-loop μ-loop
 part-read-row-start-3 c = let N = next _ _ _ _ _ _ _ (c .before .before .before .loop .inv) (c .before .before .loop-test .taken) in
-    omega (arith, N, c .before .before .before .before .before .before .before .good)
+    omega (arith, N, c .before .before .before .before .before .before .before .before .good)
 
 part-read-row-end-3 : tie.Need-part-read-row-end-3 Inv-loop μ-loop
 part-read-row-end-3 c = let N = next _ _ _ _ _ _ _ (c .before .before .before .loop .inv) (c .before .before .loop-test .taken) in
-    omega (arith, N, c .before .before .before .before .before .before .before .good)
+    omega (arith, N, c .before .before .before .before .before .before .before .before .good)
 
 mul-read-row-4 : tie.Need-mul-read-row-4 Inv-loop μ-loop
 mul-read-row-4 c = let N = next _ _ _ _ _ _ _ (c .before .before .before .before .loop .inv) (c .before .before .before .loop-test .taken) in
-    omega (arith, N, c .before .before .before .before .before .before .before .before .good)
+    omega (arith, N, c .before .before .before .before .before .before .before .before .before .good)
 
 sub-read-row-4 : tie.Need-sub-read-row-4 Inv-loop μ-loop
 sub-read-row-4 c = let N = next _ _ _ _ _ _ _ (c .before .before .before .before .loop .inv) (c .before .before .before .loop-test .taken) in
-    omega (arith, N, c .before .before .before .before .before .before .before .before .good)
+    omega (arith, N, c .before .before .before .before .before .before .before .before .before .good)
 
 part-read-row-start-4 : tie.Need-part-read-row-start-4 Inv-loop μ-loop
 part-read-row-start-4 c = let N = next _ _ _ _ _ _ _ (c .before .before .before .before .loop .inv) (c .before .before .before .loop-test .taken) in
-    omega (arith, N, c .before .before .before .before .before .before .before .before .good)
+    omega (arith, N, c .before .before .before .before .before .before .before .before .before .good)
 
 part-read-row-end-4 : tie.Need-part-read-row-end-4 Inv-loop μ-loop
 part-read-row-end-4 c = let N = next _ _ _ _ _ _ _ (c .before .before .before .before .loop .inv) (c .before .before .before .loop-test .taken) in
-    omega (arith, N, c .before .before .before .before .before .before .before .before .good)
+    omega (arith, N, c .before .before .before .before .before .before .before .before .before .good)
 
 read-row-requires : tie.Need-read-row-requires Inv-loop μ-loop
 read-row-requires c κs = let N = next _ _ _ _ _ _ _ (c .before .before .before .before .before .loop .inv) (c .before .before .before .before .loop-test .taken) in
@@ -117,31 +120,15 @@ returns c = stopped _ _ _ _ _ _ _ (c .before .before .before .before .before .be
 enum-told-2 : tie.Need-enum-told-2 Inv-loop μ-loop
 enum-told-2 c = search needs
 
-mul-p : tie.Need-mul-p Inv-loop μ-loop
-mul-p c = let N = next _ _ _ _ _ _ _ (c .before .before .before .before .before .before .before .before .before .before .before .before .before .before .loop .inv) (c .before .before .before .before .before .before .before .before .before .before .before .before .before .loop-test .taken) in
-    let h = past _ _ _ _ _ _ _ (c .before .before .before .before .before .before .before .before .before .before .before .before .before .before .loop .inv) _ (c .before .before .before .before .before .before .before .before .read-row .ensures .status) (c .enum-told2 .given .1) in
-    omega (arith, N, h, c .before .before .before .before .before .before .before .before .before .before .before .before .before .before .before .before .before .before .good)
-
 add-p : tie.Need-add-p Inv-loop μ-loop
-add-p c = let N = next _ _ _ _ _ _ _ (c .before .before .before .before .before .before .before .before .before .before .before .before .before .before .loop .inv) (c .before .before .before .before .before .before .before .before .before .before .before .before .before .loop-test .taken) in
-    let h = past _ _ _ _ _ _ _ (c .before .before .before .before .before .before .before .before .before .before .before .before .before .before .loop .inv) _ (c .before .before .before .before .before .before .before .before .read-row .ensures .status) (c .enum-told2 .given .1) in
-    omega (arith, N, h, c .before .before .before .before .before .before .before .before .before .before .before .before .before .before .before .before .before .before .good)
-
-add-p-2 : tie.Need-add-p-2 Inv-loop μ-loop
-add-p-2 c = let N = next _ _ _ _ _ _ _ (c .before .before .before .before .before .before .before .before .before .before .before .before .before .before .loop .inv) (c .before .before .before .before .before .before .before .before .before .before .before .before .before .loop-test .taken) in
-    let h = past _ _ _ _ _ _ _ (c .before .before .before .before .before .before .before .before .before .before .before .before .before .before .loop .inv) _ (c .before .before .before .before .before .before .before .before .read-row .ensures .status) (c .enum-told2 .given .1) in
-    omega (arith, N, h, c .before .before .before .before .before .before .before .before .before .before .before .before .before .before .before .before .before .before .good)
-
-add-p-3 : tie.Need-add-p-3 Inv-loop μ-loop
-add-p-3 c = let N = next _ _ _ _ _ _ _ (c .before .before .before .before .before .before .before .before .before .before .before .before .before .before .loop .inv) (c .before .before .before .before .before .before .before .before .before .before .before .before .before .loop-test .taken) in
-    let h = past _ _ _ _ _ _ _ (c .before .before .before .before .before .before .before .before .before .before .before .before .before .before .loop .inv) _ (c .before .before .before .before .before .before .before .before .read-row .ensures .status) (c .enum-told2 .given .1) in
-    omega (arith, N, h, c .before .before .before .before .before .before .before .before .before .before .before .before .before .before .before .before .before .before .good)
+add-p c = let h = past _ _ _ _ _ _ _ (c .before .before .before .before .before .before .before .before .before .before .before .before .before .before .loop .inv) _ (c .before .before .before .before .before .before .before .before .read-row .ensures .status) (c .enum-told2 .given .1) in
+    omega (arith, h, c .before .before .before .before .before .before .before .before .before .before .before .before .before .before .before .before .before .before .before .good, c .before .before .before .before .before .before .before .before .before .before .before .before .before .before .before .row-size .ensures)
 
 loop-less : tie.Need-loop-less Inv-loop μ-loop
 loop-less c = omega (arith, c .before .before .before .before .before .before .before .before .before .before .before .before .before .loop-test .taken)
 
 loop-again : tie.Need-loop-again Inv-loop μ-loop
-loop-again c = turn _ _ _ _ _ _ _ (c .before .before .before .before .before .before .before .before .before .before .before .before .before .before .loop .inv) (c .before .before .before .before .before .before .before .before .before .before .before .before .before .loop-test .taken) (c .before .before .before .before .before .before .before .before .read-row .ensures) (c .enum-told2 .given .1)
+loop-again c = turn _ _ _ _ _ _ _ (c .before .before .before .before .before .before .before .before .before .before .before .before .before .before .loop .inv) (c .before .before .before .before .before .before .before .before .before .before .before .before .before .loop-test .taken) (c .before .before .before .before .before .before .before .before .before .before .before .before .before .before .before .row-size .ensures) (c .before .before .before .before .before .before .before .before .read-row .ensures) (c .enum-told2 .given .1)
 
 same-length-5 : tie.Need-same-length-5 Inv-loop μ-loop
 same-length-5 c = omega (arith, c .before .loop .inv)
@@ -164,6 +151,7 @@ read-rows-spec =
     (tie.spec
     Inv-loop
     μ-loop
+    row-size-requires
     loop-holds
     add-to
     add-next
@@ -191,10 +179,7 @@ read-rows-spec =
     same-length-4
     returns
     enum-told-2
-    mul-p
     add-p
-    add-p-2
-    add-p-3
     loop-less
     loop-again
     same-length-5

@@ -22,11 +22,8 @@ add-right-side c = search needs
 add-right-tolerance : tie.Need-add-right-tolerance
 add-right-tolerance c = search needs
 
-mul-write-header : tie.Need-mul-write-header
-mul-write-header c = search needs
-
-add-write-header : tie.Need-add-write-header
-add-write-header c = search needs
+row-length-requires : tie.Need-row-length-requires
+row-length-requires c κs = search needs
 
 cast-write-header : tie.Need-cast-write-header
 cast-write-header c = search needs
@@ -83,11 +80,13 @@ write-u32s-requires : tie.Need-write-u32s-requires
 write-u32s-requires c κs = search needs
 
 same-length : tie.Need-same-length
-same-length c = omega (arith, c .before .before .before .before .before .before .before .before .before .before .before .before .before .before .before .before .before .before .before .before .before .before .before .pre, c .before .before .before .before .before .before .before .before .before .before .before .before .before .before .before .before .before .before .write-header .kept, c .before .before .before .before .before .before .before .before .before .before .before .before .before .before .write-i16s .kept, c .before .before .before .before .before .before .before .before .before .before .write-u16s .kept, c .before .before .before .before .before .before .write-i32s .kept, c .before .before .write-u32s .kept)
+same-length c = let s = c .before .before .before .before .before .before .before .before .before .before .before .before .before .before .before .before .before .before .before .before .before .before .before .before in
+    omega (arith, s .pre, c .before .before .before .before .before .before .before .before .before .before .before .before .before .before .before .before .before .before .write-header .kept, c .before .before .before .before .before .before .before .before .before .before .before .before .before .before .write-i16s .kept, c .before .before .before .before .before .before .before .before .before .before .write-u16s .kept, c .before .before .before .before .before .before .write-i32s .kept, c .before .before .write-u32s .kept)
 
 returns : tie.Need-returns
-returns c = let a = c .before .before .before .before .before .before .before .before .before .before .before .before .before .before .before .before .before .before .before .before .before .before .before .args in
-    row-written (now (a .out)) (now (a .a)) (now (a .t)) (now (a .b)) (now (a .f)) (c .before .before .before .before .before .before .before .before .before .before .before .before .before .before .before .before .before .before .before .before .before .before .before .pre) _ _ _ _ _ (c .before .before .before .before .before .before .before .before .before .before .before .before .before .before .before .before .before .before .write-header .ensures) (c .before .before .before .before .before .before .before .before .before .before .before .before .before .before .write-i16s .ensures) (c .before .before .before .before .before .before .before .before .before .before .write-u16s .ensures) (c .before .before .before .before .before .before .write-i32s .ensures) (c .before .before .write-u32s .ensures)
+returns c = let s = c .before .before .before .before .before .before .before .before .before .before .before .before .before .before .before .before .before .before .before .before .before .before .before .before in
+    let a = s .args in
+    row-written (now (a .out)) (now (a .a)) (now (a .t)) (now (a .b)) (now (a .f)) (s .pre) _ _ _ _ _ _ (c .before .before .before .before .before .before .before .before .before .before .before .before .before .before .before .before .before .before .before .row-length .ensures) (c .before .before .before .before .before .before .before .before .before .before .before .before .before .before .before .before .before .before .write-header .ensures) (c .before .before .before .before .before .before .before .before .before .before .before .before .before .before .write-i16s .ensures) (c .before .before .before .before .before .before .before .before .before .before .write-u16s .ensures) (c .before .before .before .before .before .before .write-i32s .ensures) (c .before .before .write-u32s .ensures)
 
 pub write-row-spec : {M : Type 1} → statement M
 write-row-spec =
@@ -98,8 +97,7 @@ write-row-spec =
     mul-right-side
     add-right-side
     add-right-tolerance
-    mul-write-header
-    add-write-header
+    row-length-requires
     cast-write-header
     write-header-requires
     sub-write-i16s

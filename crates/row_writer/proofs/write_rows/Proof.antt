@@ -2,127 +2,119 @@
 -- Assumes nothing.
 use Prim.Native.Nat.{_-_}
 use native.Mathlib.Omega.{arith}
+use borrow.Author.Needs.{needs}
 use Rattle.row_writer.proofs.Writing.{Writing, begun, next, row-room, turn, ended}
 use Rattle.row_writer.proofs.write_rows.Statement.{statement}
 use Rattle.row_writer.proofs.write_rows.Tie as tie
 
 abbrev Inv-loop : tie.InvT-loop
-Inv-loop out₀ n a t b f i₀ from₀ p₀ out i from p = Writing out₀ n a t b f out i from p
+Inv-loop out₀ n a t b f size i₀ from₀ p₀ out i from p = Writing out₀ n a t b f out i from p
 
 abbrev μ-loop : tie.MeasureT-loop
-μ-loop out₀ n a t b f i₀ from₀ p₀ out i from p = n - i
+μ-loop out₀ n a t b f size i₀ from₀ p₀ out i from p = n - i
+
+row-size-requires : tie.Need-row-size-requires Inv-loop μ-loop
+row-size-requires c κs = search needs
 
 loop-holds : tie.Need-loop-holds Inv-loop μ-loop
-loop-holds c = begun _ _ _ _ _ _ (c .before .before .before .pre)
+loop-holds c = begun _ _ _ _ _ _ (c .before .before .before .before .pre)
 
 add-to : tie.Need-add-to Inv-loop μ-loop
 add-to c = let N = next _ _ _ _ _ _ (c .before .loop .inv) (c .loop-test .taken) in
-    omega (arith, N, c .before .before .before .before .before .good)
+    omega (arith, N, c .before .before .before .before .before .before .good)
 
 add-next : tie.Need-add-next Inv-loop μ-loop
 add-next c = let N = next _ _ _ _ _ _ (c .before .loop .inv) (c .loop-test .taken) in
-    omega (arith, N, c .before .before .before .before .before .good)
+    omega (arith, N, c .before .before .before .before .before .before .good)
 
 sub-write-row : tie.Need-sub-write-row Inv-loop μ-loop
 sub-write-row c = let N = next _ _ _ _ _ _ (c .before .loop .inv) (c .loop-test .taken) in
-    omega (arith, N, c .before .before .before .before .before .good)
+    omega (arith, N, c .before .before .before .before .before .before .good)
 
 part-write-row-start : tie.Need-part-write-row-start Inv-loop μ-loop
 part-write-row-start c = let N = next _ _ _ _ _ _ (c .before .loop .inv) (c .loop-test .taken) in
-    omega (arith, N, c .before .before .before .before .before .good)
+    omega (arith, N, c .before .before .before .before .before .before .good)
 
 part-write-row-end : tie.Need-part-write-row-end Inv-loop μ-loop
 part-write-row-end c = let N = next _ _ _ _ _ _ (c .before .loop .inv) (c .loop-test .taken) in
-    omega (arith, N, c .before .before .before .before .before .good)
+    omega (arith, N, c .before .before .before .before .before .before .good)
 
 mul-write-row : tie.Need-mul-write-row Inv-loop μ-loop
 mul-write-row c = let N = next _ _ _ _ _ _ (c .before .before .loop .inv) (c .before .loop-test .taken) in
-    omega (arith, N, c .before .before .before .before .before .before .good)
+    omega (arith, N, c .before .before .before .before .before .before .before .good)
 
 sub-write-row-2 : tie.Need-sub-write-row-2 Inv-loop μ-loop
 sub-write-row-2 c = let N = next _ _ _ _ _ _ (c .before .before .loop .inv) (c .before .loop-test .taken) in
-    omega (arith, N, c .before .before .before .before .before .before .good)
+    omega (arith, N, c .before .before .before .before .before .before .before .good)
 
 part-write-row-start-2 : tie.Need-part-write-row-start-2 Inv-loop μ-loop
 part-write-row-start-2 c = let N = next _ _ _ _ _ _ (c .before .before .loop .inv) (c .before .loop-test .taken) in
-    omega (arith, N, c .before .before .before .before .before .before .good)
+    omega (arith, N, c .before .before .before .before .before .before .before .good)
 
 part-write-row-end-2 : tie.Need-part-write-row-end-2 Inv-loop μ-loop
 part-write-row-end-2 c = let N = next _ _ _ _ _ _ (c .before .before .loop .inv) (c .before .loop-test .taken) in
-    omega (arith, N, c .before .before .before .before .before .before .good)
+    omega (arith, N, c .before .before .before .before .before .before .before .good)
 
 mul-write-row-2 : tie.Need-mul-write-row-2 Inv-loop μ-loop
 mul-write-row-2 c = let N = next _ _ _ _ _ _ (c .before .before .before .loop .inv) (c .before .before .loop-test .taken) in
-    omega (arith, N, c .before .before .before .before .before .before .before .good)
+    omega (arith, N, c .before .before .before .before .before .before .before .before .good)
 
 sub-write-row-3 : tie.Need-sub-write-row-3 Inv-loop μ-loop
 sub-write-row-3 c = let N = next _ _ _ _ _ _ (c .before .before .before .loop .inv) (c .before .before .loop-test .taken) in
-    omega (arith, N, c .before .before .before .before .before .before .before .good)
+    omega (arith, N, c .before .before .before .before .before .before .before .before .good)
 
 part-write-row-start-3 : tie.Need-part-write-row-start-3 Inv-loop μ-loop
 part-write-row-start-3 c = let N = next _ _ _ _ _ _ (c .before .before .before .loop .inv) (c .before .before .loop-test .taken) in
-    omega (arith, N, c .before .before .before .before .before .before .before .good)
+    omega (arith, N, c .before .before .before .before .before .before .before .before .good)
 
 part-write-row-end-3 : tie.Need-part-write-row-end-3 Inv-loop μ-loop
 part-write-row-end-3 c = let N = next _ _ _ _ _ _ (c .before .before .before .loop .inv) (c .before .before .loop-test .taken) in
-    omega (arith, N, c .before .before .before .before .before .before .before .good)
+    omega (arith, N, c .before .before .before .before .before .before .before .before .good)
 
 mul-write-row-3 : tie.Need-mul-write-row-3 Inv-loop μ-loop
 mul-write-row-3 c = let N = next _ _ _ _ _ _ (c .before .before .before .before .loop .inv) (c .before .before .before .loop-test .taken) in
-    omega (arith, N, c .before .before .before .before .before .before .before .before .good)
+    omega (arith, N, c .before .before .before .before .before .before .before .before .before .good)
 
 sub-write-row-4 : tie.Need-sub-write-row-4 Inv-loop μ-loop
 sub-write-row-4 c = let N = next _ _ _ _ _ _ (c .before .before .before .before .loop .inv) (c .before .before .before .loop-test .taken) in
-    omega (arith, N, c .before .before .before .before .before .before .before .before .good)
+    omega (arith, N, c .before .before .before .before .before .before .before .before .before .good)
 
 part-write-row-start-4 : tie.Need-part-write-row-start-4 Inv-loop μ-loop
 part-write-row-start-4 c = let N = next _ _ _ _ _ _ (c .before .before .before .before .loop .inv) (c .before .before .before .loop-test .taken) in
-    omega (arith, N, c .before .before .before .before .before .before .before .before .good)
+    omega (arith, N, c .before .before .before .before .before .before .before .before .before .good)
 
 part-write-row-end-4 : tie.Need-part-write-row-end-4 Inv-loop μ-loop
 part-write-row-end-4 c = let N = next _ _ _ _ _ _ (c .before .before .before .before .loop .inv) (c .before .before .before .loop-test .taken) in
-    omega (arith, N, c .before .before .before .before .before .before .before .before .good)
+    omega (arith, N, c .before .before .before .before .before .before .before .before .before .good)
 
 mul-write-row-4 : tie.Need-mul-write-row-4 Inv-loop μ-loop
 mul-write-row-4 c = let N = next _ _ _ _ _ _ (c .before .before .before .before .before .loop .inv) (c .before .before .before .before .loop-test .taken) in
-    omega (arith, N, c .before .before .before .before .before .before .before .before .before .good)
+    omega (arith, N, c .before .before .before .before .before .before .before .before .before .before .good)
 
 sub-write-row-5 : tie.Need-sub-write-row-5 Inv-loop μ-loop
 sub-write-row-5 c = let N = next _ _ _ _ _ _ (c .before .before .before .before .before .loop .inv) (c .before .before .before .before .loop-test .taken) in
-    omega (arith, N, c .before .before .before .before .before .before .before .before .before .good)
+    omega (arith, N, c .before .before .before .before .before .before .before .before .before .before .good)
 
 part-write-row-start-5 : tie.Need-part-write-row-start-5 Inv-loop μ-loop
 part-write-row-start-5 c = let N = next _ _ _ _ _ _ (c .before .before .before .before .before .loop .inv) (c .before .before .before .before .loop-test .taken) in
-    omega (arith, N, c .before .before .before .before .before .before .before .before .before .good)
+    omega (arith, N, c .before .before .before .before .before .before .before .before .before .before .good)
 
 part-write-row-end-5 : tie.Need-part-write-row-end-5 Inv-loop μ-loop
 part-write-row-end-5 c = let N = next _ _ _ _ _ _ (c .before .before .before .before .before .loop .inv) (c .before .before .before .before .loop-test .taken) in
-    omega (arith, N, c .before .before .before .before .before .before .before .before .before .good)
+    omega (arith, N, c .before .before .before .before .before .before .before .before .before .before .good)
 
 write-row-requires : tie.Need-write-row-requires Inv-loop μ-loop
 write-row-requires c κs = row-room _ _ _ _ _ _ (c .before .before .before .before .before .before .loop .inv) (c .before .before .before .before .before .loop-test .taken)
 
-mul-p : tie.Need-mul-p Inv-loop μ-loop
-mul-p c = let N = next _ _ _ _ _ _ (c .before .before .before .before .before .before .before .before .before .loop .inv) (c .before .before .before .before .before .before .before .before .loop-test .taken) in
-    omega (arith, N, c .before .before .before .before .before .before .before .before .before .before .before .before .before .good, c .before .before .before .before .before .before .before .before .before .loop .inv .same)
-
 add-p : tie.Need-add-p Inv-loop μ-loop
 add-p c = let N = next _ _ _ _ _ _ (c .before .before .before .before .before .before .before .before .before .loop .inv) (c .before .before .before .before .before .before .before .before .loop-test .taken) in
-    omega (arith, N, c .before .before .before .before .before .before .before .before .before .before .before .before .before .good, c .before .before .before .before .before .before .before .before .before .loop .inv .same)
-
-add-p-2 : tie.Need-add-p-2 Inv-loop μ-loop
-add-p-2 c = let N = next _ _ _ _ _ _ (c .before .before .before .before .before .before .before .before .before .loop .inv) (c .before .before .before .before .before .before .before .before .loop-test .taken) in
-    omega (arith, N, c .before .before .before .before .before .before .before .before .before .before .before .before .before .good, c .before .before .before .before .before .before .before .before .before .loop .inv .same)
-
-add-p-3 : tie.Need-add-p-3 Inv-loop μ-loop
-add-p-3 c = let N = next _ _ _ _ _ _ (c .before .before .before .before .before .before .before .before .before .loop .inv) (c .before .before .before .before .before .before .before .before .loop-test .taken) in
-    omega (arith, N, c .before .before .before .before .before .before .before .before .before .before .before .before .before .good, c .before .before .before .before .before .before .before .before .before .loop .inv .same)
+    omega (arith, N, c .before .before .before .before .before .before .before .before .before .before .before .before .before .before .good, c .before .before .before .before .before .before .before .before .before .loop .inv .same, c .before .before .before .before .before .before .before .before .before .before .row-size .ensures)
 
 loop-less : tie.Need-loop-less Inv-loop μ-loop
 loop-less c = omega (arith, c .before .before .before .before .before .before .before .before .loop-test .taken)
 
 loop-again : tie.Need-loop-again Inv-loop μ-loop
-loop-again c = turn _ _ _ _ _ _ (c .before .before .before .before .before .before .before .before .before .loop .inv) (c .before .before .before .before .before .before .before .before .loop-test .taken) _ (c .before .before .write-row .ensures)
+loop-again c = turn _ _ _ _ _ _ (c .before .before .before .before .before .before .before .before .before .loop .inv) (c .before .before .before .before .before .before .before .before .loop-test .taken) (c .before .before .before .before .before .before .before .before .before .before .row-size .ensures) _ (c .before .before .write-row .ensures)
 
 same-length : tie.Need-same-length Inv-loop μ-loop
 same-length c = omega (arith, c .before .loop .inv)
@@ -136,6 +128,7 @@ write-rows-spec =
     (tie.spec
     Inv-loop
     μ-loop
+    row-size-requires
     loop-holds
     add-to
     add-next
@@ -159,10 +152,7 @@ write-rows-spec =
     part-write-row-start-5
     part-write-row-end-5
     write-row-requires
-    mul-p
     add-p
-    add-p-2
-    add-p-3
     loop-less
     loop-again
     same-length
