@@ -52,6 +52,10 @@ pub sum-pos : (n : ℕ) (f : ℕ → ℕ) → sum n (λ j. pos (f j)) ≡ pos (t
 sum-pos zero f = refl
 sum-pos (suc n) f = ap (λ x. x +ℤ pos (f n)) (sum-pos n f)
 
+-- no term
+pub sum-empty : (m : ℕ) (f : ℕ → ℤ) → m ≡ 0 → sum m f ≡ pos 0
+sum-empty m f e = rw e
+
 -- nothing at each place
 pub sum-none : (n : ℕ) (f : ℕ → ℤ) → ((j : ℕ) → j < n → f j ≡ pos 0) → sum n f ≡ pos 0
 sum-none zero f h = refl

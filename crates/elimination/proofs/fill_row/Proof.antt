@@ -2,15 +2,15 @@
 -- range is told where it is read. Assumes nothing.
 use mathlib.Core.Path.{_≡_, sym, ap, _∙_}
 use mathlib.Core.List.{List}
-use Prim.Native.Nat.{ℕ, _+_, _*_, _-_, _<_, _≤_}
+use Prim.Native.Nat.{ℕ, _+_, _*_, _-_, _^_, _<_, _≤_}
 use native.Mathlib.Nat.{mul-le-mul}
 use native.Mathlib.Omega.{arith}
 use lib.ListN.{getD, set}
 use lib.IntN.{ℤ, pos, natAbs, _*ℤ_}
-use mir.Syntax.{w16, w64}
+use mir.Syntax.{w16}
 use mir.Val.{SFits}
 use mir.Facts.{toZ-ofZ}
-use Rattle.integers.specs.Size.{natAbs-*ℤ, size-sfits, sfits-size}
+use Rattle.integers.specs.Size.{at-most, bounds, natAbs-*ℤ, size-sfits, sfits-by}
 use Rattle.integers.specs.Signed.{wide-fits, wide-is}
 use Rattle.elimination.specs.Matrix.{fill, Within}
 use Rattle.elimination.specs.Steps.{scaled, working-row}
@@ -36,9 +36,6 @@ place n i j h p q =
 module _ (z : ℤ) (f : SFits w16 z) where
   size : natAbs (pos 256 *ℤ z) ≤ bound 0
   size = omega (arith, natAbs-*ℤ (pos 256) z, size-sfits f)
-
-  product : SFits w64 (pos 256 *ℤ z)
-  product = sfits-size (omega (arith, size))
 
 loop-holds : tie.Need-loop-holds Inv-loop μ-loop
 loop-holds c = (
@@ -76,7 +73,9 @@ cast-row : tie.Need-cast-row Inv-loop μ-loop
 cast-row c = wide-fits w16 tt (figure c) (range c)
 
 mul-row-3 : tie.Need-mul-row-3 Inv-loop μ-loop
-mul-row-3 c = rw (wide-is w16 tt (figure c) (range c)) (product (figure c) (range c))
+mul-row-3 c =
+    let z = at-most (figure c) (2 ^ 15) (size-sfits (range c)) in
+    rw (wide-is w16 tt (figure c) (range c)) (sfits-by (search bounds) tt)
 
 mul-t15 : tie.Need-mul-t15 Inv-loop μ-loop
 mul-t15 c = omega arith
@@ -96,7 +95,7 @@ loop-again c =
     let s = d .before .args in
     let z = figure c in
     let f = range c in
-    rw (wide-is w16 tt z f, toZ-ofZ (product z f)) (
+    rw (toZ-ofZ (mul-row-3 c), wide-is w16 tt z f) (
       omega arith,
       all-set (λ (x : ℤ). natAbs x ≤ bound 0) (pos 0) (d .loop .row) (d .loop .j) (pos 256 *ℤ z) (size z f) (d .loop .inv .1),
       ap (λ (l : List ℤ). set l (d .loop .j) (pos 256 *ℤ z)) (d .loop .inv .2)

@@ -47,7 +47,7 @@ element-copy-out-row-residual c = search needs
 row-residual-requires : tie.Need-row-residual-requires Inv-loop μ-loop
 row-residual-requires c κs =
     let g = c .before .before .before in
-    (g .pre .0, inside (g .args .n) (c .before .before .loop .i) (g .pre .0) (omega arith))
+    (g .pre .0, omega (arith, inside (g .args .n) (c .before .before .loop .i) (g .pre .0) (omega arith)))
 
 mul-t15 : tie.Need-mul-t15 Inv-loop μ-loop
 mul-t15 c = search needs
@@ -68,10 +68,11 @@ loop-again c =
     let g = l .before .args in
     let i = l .loop .i in
     let f : SFits w32 (getD (g .right-sides .now) i (pos 0)) = record { sfits = c .before .row-residual-arg .given } in
-    let e = simp toZ-ofZ at (c .row-residual .ensures) in
+    let r = residual-at (g .n) (g .scale) (g .coefficients .now) (g .right-sides .now) (g .trial .now) in
+    let e : c .row-residual .result ≡ r i = simp toZ-ofZ at (c .row-residual .ensures) in
     let o : SFits w64 (c .row-residual .result) = record { sfits = c .row-residual .ok } in (
       omega arith,
-      simp toZ-ofZ (ap₂ (λ l v. set l i v) (l .loop .inv .1) e ∙ rewritten-more (pos 0) (residual-at (g .n) (g .scale) (g .coefficients .now) (g .right-sides .now) (g .trial .now)) (g .residuals .now) i),
+      simp toZ-ofZ (ap₂ (λ l v. set l i v) (l .loop .inv .1) e ∙ rewritten-more (pos 0) r (g .residuals .now) i),
     )
 
 returns : tie.Need-returns Inv-loop μ-loop

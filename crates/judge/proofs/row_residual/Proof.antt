@@ -4,12 +4,12 @@ use mathlib.Core.Path.{_≡_, ap, _∙_}
 use Prim.Native.Nat.{ℕ, _+_, _*_, _-_, _^_, _≤_}
 use native.Mathlib.Omega.{arith}
 use lib.ListN.{getD}
-use lib.IntN.{ℤ, pos, natAbs, _+ℤ_, _-ℤ_, _*ℤ_}
+use lib.IntN.{ℤ, pos, natAbs, _+ℤ_, _*ℤ_}
 use mir.Syntax.{w16, w32, w64}
 use mir.Val.{SFits, toZ, ofZ}
 use mir.Facts.{toZ-ofZ}
 use borrow.Author.Needs.{needs}
-use Rattle.integers.specs.Size.{at-most, bounds, size-by, size-sfits, sfits-size, natAbs-+ℤ, natAbs-subℤ}
+use Rattle.integers.specs.Size.{at-most, bounds, size-by, size-sfits, sfits-by, sfits-size, natAbs-+ℤ}
 use Rattle.integers.specs.Signed.{wide-fits, wide-is}
 use Rattle.integers.specs.Sums.{sum, sum-more}
 use Rattle.judge.proofs.row_residual.Statement.{statement}
@@ -118,29 +118,26 @@ module _ (c : tie.After-scaled-side Inv-loop μ-loop) where
   abbrev t′ : ℤ
   t′ = toZ w64 (c .before .before .loop .s)
 
+  read-side : toZ w64 (ofZ w64 (c .scaled-side .result)) ≡ c .scaled-side .result
+  read-side = toZ-ofZ (record { sfits = c .scaled-side .ok })
+
   side-is : toZ w64 (ofZ w64 (c .scaled-side .result)) ≡ pos (c .before .before .before .args .scale) *ℤ b′
-  side-is =
-      let f = c .before .before .before .fits .right-side in
-      toZ-ofZ {w = w64} (record { sfits = c .scaled-side .ok }) ∙ simp toZ-ofZ at (c .scaled-side .ensures .0)
+  side-is = let f = c .before .before .before .fits .right-side in read-side ∙ simp toZ-ofZ at (c .scaled-side .ensures .0)
 
-  last-fits : SFits w64 (pos (c .before .before .before .args .scale) *ℤ b′ -ℤ t′)
-  last-fits =
-      let f = c .before .before .before .fits .right-side in
-      let e = simp toZ-ofZ at (c .scaled-side .ensures .0) in
-      let g : natAbs (pos (c .before .before .before .args .scale) *ℤ b′) ≤ 2 ^ 47 = rw e at (c .scaled-side .ensures .1) in
-      sfits-size (omega (arith, natAbs-subℤ (pos (c .before .before .before .args .scale) *ℤ b′) t′))
-
+-- the last operation
 sub-result : tie.Need-sub-result Inv-loop μ-loop
-sub-result c = rw (side-is c) (last-fits c)
+sub-result c =
+    let x = at-most (c .scaled-side .result) (2 ^ 47) (c .scaled-side .ensures .1) in
+    let t = at-most (t′ c) (2 ^ 49) (omega arith) in
+    rw (read-side c) (sfits-by (search bounds) tt)
 
 returns : tie.Need-returns Inv-loop μ-loop
 returns c =
     let l = c .before .before in
     let g = l .before .args in
     let q : l .loop .j ≡ g .n = omega arith in
-    rw (side-is c, toZ-ofZ (last-fits c))
-    (ap (λ t. pos (g .scale) *ℤ b′ c -ℤ t)
-    (l .loop .inv .1 ∙ ap (λ (m : ℕ). sum m (λ k. getD (g .coefficients .now) (g .from + k) (pos 0) *ℤ getD (g .trial .now) k (pos 0))) q))
+    let e = rw q at (l .loop .inv .1) in
+    rw (toZ-ofZ (sub-result c), side-is c, e)
 
 pub row-residual-spec : {M : Type 1} → statement M
 row-residual-spec =

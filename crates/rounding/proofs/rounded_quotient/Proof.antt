@@ -1,7 +1,9 @@
 -- `rounding::rounded_quotient` meets its contract: the magnitudes are rounded, and the tests of the signs give the sign. Assumes nothing.
 use mathlib.Core.Path.{_≡_, sym, ap, ap₂, _∙_}
+use mathlib.Core.Bool.{true, false}
 use Prim.Native.Nat.{ℕ}
 use lib.IntN.{ℤ, pos, negℤ, natAbs}
+use lib.Signed.{ltZ}
 use mir.Syntax.{w64}
 use mir.Val.{toZ, ofZ}
 use mir.Facts.{toZ-ofZ}
@@ -38,22 +40,30 @@ module _ (c : tie.After-nearest) where
 both-below : (c : tie.Then2) → rnd (p′ (c .before .before)) (q′ (c .before .before)) ≡ pos (m′ (c .before .before))
 both-below c =
     let d = c .before .before in
-    rnd-signs (p′ d) (q′ d) ∙ rw (rw (p-is d) at (c .before .if1 .taken), rw (q-is d) at (c .if2 .taken), ← m-is d)
+    let p-below : ltZ (p′ d) (pos 0) ≡ true = rw (p-is d) at (c .before .if1 .taken) in
+    let q-below : ltZ (q′ d) (pos 0) ≡ true = rw (q-is d) at (c .if2 .taken) in
+    rnd-signs (p′ d) (q′ d) ∙ rw (p-below, q-below, ← m-is d)
 
 below : (c : tie.Else2) → rnd (p′ (c .before .before)) (q′ (c .before .before)) ≡ negℤ (pos (m′ (c .before .before)))
 below c =
     let d = c .before .before in
-    rnd-signs (p′ d) (q′ d) ∙ rw (rw (p-is d) at (c .before .if1 .taken), rw (q-is d) at (c .if2 .left), ← m-is d)
+    let p-below : ltZ (p′ d) (pos 0) ≡ true = rw (p-is d) at (c .before .if1 .taken) in
+    let q-from-zero : ltZ (q′ d) (pos 0) ≡ false = rw (q-is d) at (c .if2 .left) in
+    rnd-signs (p′ d) (q′ d) ∙ rw (p-below, q-from-zero, ← m-is d)
 
 divisor-below : (c : tie.Then3) → rnd (p′ (c .before .before)) (q′ (c .before .before)) ≡ negℤ (pos (m′ (c .before .before)))
 divisor-below c =
     let d = c .before .before in
-    rnd-signs (p′ d) (q′ d) ∙ rw (rw (p-is d) at (c .before .if1 .left), rw (q-is d) at (c .if3 .taken), ← m-is d)
+    let p-from-zero : ltZ (p′ d) (pos 0) ≡ false = rw (p-is d) at (c .before .if1 .left) in
+    let q-below : ltZ (q′ d) (pos 0) ≡ true = rw (q-is d) at (c .if3 .taken) in
+    rnd-signs (p′ d) (q′ d) ∙ rw (p-from-zero, q-below, ← m-is d)
 
 none-below : (c : tie.Else3) → rnd (p′ (c .before .before)) (q′ (c .before .before)) ≡ pos (m′ (c .before .before))
 none-below c =
     let d = c .before .before in
-    rnd-signs (p′ d) (q′ d) ∙ rw (rw (p-is d) at (c .before .if1 .left), rw (q-is d) at (c .if3 .left), ← m-is d)
+    let p-from-zero : ltZ (p′ d) (pos 0) ≡ false = rw (p-is d) at (c .before .if1 .left) in
+    let q-from-zero : ltZ (q′ d) (pos 0) ≡ false = rw (q-is d) at (c .if3 .left) in
+    rnd-signs (p′ d) (q′ d) ∙ rw (p-from-zero, q-from-zero, ← m-is d)
 
 magnitude-requires : tie.Need-magnitude-requires
 magnitude-requires c κs = search needs

@@ -1,4 +1,5 @@
 -- `rounding::rounds_up` meets its contract: it is the test of the rule for halves. Assumes nothing.
+use mathlib.Core.Path.{refl}
 use borrow.Author.Needs.{needs}
 use Rattle.rounding.specs.Half.{rounds-up}
 use Rattle.rounding.proofs.rounds_up.Statement.{statement}
@@ -9,7 +10,7 @@ sub-result c = search needs
 
 returns : tie.Need-returns
 unfolding rounds-up
-returns c = search needs
+returns c = refl
 
 pub rounds-up-spec : {M : Type 1} → statement M
 rounds-up-spec = tie.close (tie.spec sub-result returns)

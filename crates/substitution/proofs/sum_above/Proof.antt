@@ -1,6 +1,6 @@
 -- `substitution::sum_above` meets its contract. The loop's invariant: s is the sum of exactly the products so far.
 -- Assumes nothing.
-use mathlib.Core.Path.{_≡_}
+use mathlib.Core.Path.{_≡_, sym}
 use mathlib.Core.List.{List}
 use Prim.Native.Nat.{ℕ, suc, _+_, _-_, _≤_}
 use native.Mathlib.Omega.{arith}
@@ -9,7 +9,7 @@ use lib.IntN.{ℤ, pos, _+ℤ_, _*ℤ_}
 use mir.Syntax.{w64}
 use mir.Val.{SFits, toZ, ofZ}
 use mir.Facts.{toZ-ofZ}
-use Rattle.integers.specs.Sums.{sum}
+use Rattle.integers.specs.Sums.{sum, sum-empty}
 use Rattle.substitution.specs.Passes.{product-above}
 use Rattle.substitution.specs.Bounds.{Summable}
 use Rattle.substitution.specs.BackwardLaws.{above-more, working-fits, correction-fits, term-fits, sum-fits}
@@ -61,10 +61,7 @@ add-j : tie.Need-add-j Inv-loop μ-loop
 add-j c = omega arith
 
 loop-holds : tie.Need-loop-holds Inv-loop μ-loop
-loop-holds c =
-    let p = c .pre .place in
-    let e : c .args .i + 1 - suc (c .args .i) ≡ 0 = omega arith in
-    (omega arith, omega arith, rw e)
+loop-holds c = let p = c .pre .place in (omega arith, omega arith, sym (sum-empty (c .args .i + 1 - suc (c .args .i)) _ (omega arith)))
 
 mul-s : tie.Need-mul-s Inv-loop μ-loop
 mul-s c = omega arith
