@@ -1,7 +1,8 @@
 -- Eight places that a loop writes again from the front, where those past the last row hold 0. Assumes nothing.
-use mathlib.Core.Path.{_≡_, refl, sym, _∙_}
+use mathlib.Core.Path.{_≡_, refl, sym, ap₂, _∙_}
 use mathlib.Core.List.{List}
-use Prim.Native.Nat.{ℕ, zero, suc, _+_, _<_, _≤_}
+use Prim.Native.Nat.{ℕ, zero, suc, _+_, _*_, _<_, _≤_}
+use native.Mathlib.Nat.{mul-le-mul}
 use native.Mathlib.Numerals.{add-one}
 use native.Mathlib.Omega.{arith}
 use native.Mathlib.Decide.{ℕ-discrete, decLt}
@@ -19,6 +20,10 @@ pub record Cleared {X : Type 0} (n : ℕ) (z : X) (l : List X) : Type 0 where
 abbrev pub rewritten : {X : Type 0} → (ℕ → X) → List X → ℕ → List X
 rewritten f l zero = l
 rewritten f l (suc i) = set (rewritten f l i) i (f i)
+
+-- row i's part of n rows that stand row after row ends within eight times eight places
+pub row-inside : (n i : ℕ) → n ≤ 8 → i < n → i * n + n ≤ 64
+row-inside n i h k = omega (arith, mul-le-mul {n₁ = i + 1} {n₂ = 8} {m₂ = 8} (omega arith) h)
 
 module _ {X : Type 0} (z : X) where
   pub zero-cleared : (n : ℕ) → Cleared n z (table 8 (λ _. z))
@@ -49,12 +54,8 @@ module _ {X : Type 0} (z : X) where
         go (yes e) r = rw e (getD-set-same (rewritten f l i) i (f i) z (omega (arith, length-rewritten i)))
         go (no p) r = getD-set-other (rewritten f l i) i k (f i) z p ∙ r (omega arith)
 
-    -- one place more
-    pub rewritten-more : (i : ℕ) → set (rewritten f l i) i (f i) ≡ rewritten f l (i + 1)
-    rewritten-more i = rw (add-one i)
-
     -- all n of them
-    pub rewritten-all : (n : ℕ) → Cleared n z l → rewritten f l n ≡ filled 8 n z f
+    rewritten-all : (n : ℕ) → Cleared n z l → rewritten f l n ≡ filled 8 n z f
     unfolding filled
     rewritten-all n c = ext-getD z (rewritten f l n) (filled 8 n z f) (length-rewritten n ∙ c .eight ∙ sym (length-table 8 (until n z f))) at
       where
@@ -66,3 +67,19 @@ module _ {X : Type 0} (z : X) where
             go : k < 8 → Dec (k < n) → getD (rewritten f l n) k z ≡ until n z f k
             go b (yes q) = rw (lt-ltb k n q) (at-rewritten n k q (omega (arith, c .eight)))
             go b (no q) = let g : n ≤ k = omega arith in rw (le-ltb k n g) (past-rewritten n k g ∙ c .past k g)
+
+-- ---- the loop that writes them: i of n are written
+
+pub record Rewriting {X : Type 0} (f : ℕ → X) (l₀ : List X) (n : ℕ) (l : List X) (i : ℕ) : Type 0 where
+  pub count : i ≤ n
+  pub is : l ≡ rewritten f l₀ i
+
+module _ {X : Type 0} {f : ℕ → X} {l₀ : List X} {n : ℕ} where
+  pub rewriting-begun : Rewriting f l₀ n l₀ 0
+  rewriting-begun = record { count = omega arith; is = refl }
+
+  pub rewriting-turn : {l : List X} {i : ℕ} {v : X} → Rewriting f l₀ n l i → i < n → v ≡ f i → Rewriting f l₀ n (set l i v) (i + 1)
+  rewriting-turn {l} {i} {v} r h e = record { count = omega arith; is = ap₂ (λ l v. set l i v) (r .is) e ∙ rw (add-one i) }
+
+  pub rewriting-ended : (z : X) {l : List X} {i : ℕ} → Rewriting f l₀ n l i → n ≤ i → Cleared n z l₀ → l ≡ filled 8 n z f
+  rewriting-ended z {l} {i} r h c = let q : i ≡ n = omega (arith, r .count) in rw q at (r .is) ∙ rewritten-all z f l₀ n c

@@ -1,15 +1,12 @@
 -- `judge::fill_reaches` meets its contract. The loop's invariant: the places below i are written again, with the reach of their rows.
 -- Assumes nothing.
-use mathlib.Core.Path.{_≡_, refl, ap₂, _∙_}
 use mathlib.Core.List.{List, []}
-use Prim.Native.Nat.{ℕ, _+_, _*_, _-_, _≤_, _<_}
-use native.Mathlib.Nat.{mul-le-mul}
+use Prim.Native.Nat.{ℕ, _-_}
 use native.Mathlib.Omega.{arith}
-use lib.ListN.{set}
 use lib.IntN.{ℤ}
 use borrow.Author.Needs.{needs}
 use Rattle.judge.specs.System.{reach, system, row, trial as trialOf}
-use Rattle.judge.specs.Places.{rewritten, rewritten-more, rewritten-all}
+use Rattle.judge.specs.Places.{Rewriting, row-inside, rewriting-begun, rewriting-turn, rewriting-ended}
 use Rattle.judge.proofs.fill_reaches.Statement.{statement}
 use Rattle.judge.proofs.fill_reaches.Tie as tie
 
@@ -19,21 +16,17 @@ reach-at n D E f Y k = reach (row (system n [] E [] f) k) (trialOf n D Y)
 
 abbrev Inv-loop : tie.InvT-loop
 Inv-loop n scale tolerances right-tolerances trial reaches₀ i₀ reaches i =
-    (i ≤ n) × (reaches ≡ rewritten (reach-at n scale tolerances right-tolerances trial) reaches₀ i)
+    Rewriting (reach-at n scale tolerances right-tolerances trial) reaches₀ n reaches i
 
 abbrev μ-loop : tie.MeasureT-loop
 μ-loop n scale tolerances right-tolerances trial reaches₀ i₀ reaches i = n - i
 
--- row i's part ends within the list
-inside : (n i : ℕ) → n ≤ 8 → i < n → i * n + n ≤ 64
-inside n i h k = omega (arith, mul-le-mul {n₁ = i + 1} {n₂ = 8} {m₂ = 8} (omega arith) h)
-
 loop-holds : tie.Need-loop-holds Inv-loop μ-loop
-loop-holds c = (omega arith, refl)
+loop-holds c = rewriting-begun
 
 mul-row-reach : tie.Need-mul-row-reach Inv-loop μ-loop
 mul-row-reach c =
-    omega (arith, inside (c .before .before .args .n) (c .before .loop .i) (c .before .before .pre .0) (omega arith))
+    omega (arith, row-inside (c .before .before .args .n) (c .before .loop .i) (c .before .before .pre .0) (omega arith))
 
 mul-row-reach-2 : tie.Need-mul-row-reach-2 Inv-loop μ-loop
 mul-row-reach-2 c = search needs
@@ -44,7 +37,7 @@ element-copy-out-row-reach c = search needs
 row-reach-requires : tie.Need-row-reach-requires Inv-loop μ-loop
 row-reach-requires c κs =
     let g = c .before .before .before in
-    (g .pre .0, inside (g .args .n) (c .before .before .loop .i) (g .pre .0) (omega arith))
+    (g .pre .0, row-inside (g .args .n) (c .before .before .loop .i) (g .pre .0) (omega arith))
 
 mul-reaches : tie.Need-mul-reaches Inv-loop μ-loop
 mul-reaches c = search needs
@@ -61,20 +54,10 @@ loop-less c = search needs
 loop-again : tie.Need-loop-again Inv-loop μ-loop
 unfolding reach
 loop-again c =
-    let l = c .before .before .before in
-    let g = l .before .args in
-    let i = l .loop .i in (
-      omega arith,
-      ap₂ (λ l v. set l i v) (l .loop .inv .1) (c .row-reach .ensures) ∙ rewritten-more 0 (reach-at (g .n) (g .scale) (g .tolerances .now) (g .right-tolerances .now) (g .trial .now)) (g .reaches .now) i,
-    )
+    rewriting-turn (c .before .before .before .loop .inv) (c .before .before .loop-test .taken) (c .row-reach .ensures)
 
 returns : tie.Need-returns Inv-loop μ-loop
-returns c =
-    let g = c .before .before in
-    let a = g .args in
-    let q : c .before .loop .i ≡ a .n = omega arith in
-    rw q at (c .before .loop .inv .1)
-    ∙ rewritten-all 0 (reach-at (a .n) (a .scale) (a .tolerances .now) (a .right-tolerances .now) (a .trial .now)) (a .reaches .now) (a .n) (g .pre .1)
+returns c = rewriting-ended 0 (c .before .loop .inv) (c .loop-test .left) (c .before .before .pre .1)
 
 pub fill-reaches-spec : {M : Type 1} → statement M
 fill-reaches-spec =

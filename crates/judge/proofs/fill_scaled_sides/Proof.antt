@@ -1,16 +1,15 @@
 -- `judge::fill_scaled_sides` meets its contract. The loop's invariant: the places below i are written again, with D b of their rows.
 -- Assumes nothing.
-use mathlib.Core.Path.{_≡_, refl, ap₂, _∙_}
+use mathlib.Core.Path.{_≡_, _∙_}
 use mathlib.Core.List.{List}
-use Prim.Native.Nat.{ℕ, _-_, _≤_}
-use native.Mathlib.Omega.{arith}
-use lib.ListN.{set, getD}
+use Prim.Native.Nat.{ℕ, _-_}
+use lib.ListN.{getD}
 use lib.IntN.{ℤ, pos, _*ℤ_}
 use mir.Syntax.{w32, w64}
 use mir.Val.{SFits}
 use mir.Facts.{toZ-ofZ}
 use borrow.Author.Needs.{needs}
-use Rattle.judge.specs.Places.{rewritten, rewritten-more, rewritten-all}
+use Rattle.judge.specs.Places.{Rewriting, rewriting-begun, rewriting-turn, rewriting-ended}
 use Rattle.judge.proofs.fill_scaled_sides.Statement.{statement}
 use Rattle.judge.proofs.fill_scaled_sides.Tie as tie
 
@@ -20,13 +19,13 @@ side D b k = pos D *ℤ getD b k (pos 0)
 
 abbrev Inv-loop : tie.InvT-loop
 Inv-loop n scale right-sides residuals₀ i₀ residuals i =
-    (i ≤ n) × (residuals ≡ rewritten (side scale right-sides) residuals₀ i)
+    Rewriting (side scale right-sides) residuals₀ n residuals i
 
 abbrev μ-loop : tie.MeasureT-loop
 μ-loop n scale right-sides residuals₀ i₀ residuals i = n - i
 
 loop-holds : tie.Need-loop-holds Inv-loop μ-loop
-loop-holds c = (omega arith, refl)
+loop-holds c = rewriting-begun
 
 mul-scaled-side : tie.Need-mul-scaled-side Inv-loop μ-loop
 mul-scaled-side c = search needs
@@ -55,19 +54,12 @@ loop-again c =
     let g = l .before .args in
     let i = l .loop .i in
     let f : SFits w32 (getD (g .right-sides .now) i (pos 0)) = record { sfits = c .before .scaled-side-arg .given } in
-    let e = simp toZ-ofZ at (c .scaled-side .ensures .0) in
-    let o : SFits w64 (c .scaled-side .result) = record { sfits = c .scaled-side .ok } in (
-      omega arith,
-      simp toZ-ofZ (ap₂ (λ l v. set l i v) (l .loop .inv .1) e ∙ rewritten-more (pos 0) (side (g .scale) (g .right-sides .now)) (g .residuals .now) i),
-    )
+    let e : c .scaled-side .result ≡ side (g .scale) (g .right-sides .now) i = simp toZ-ofZ at (c .scaled-side .ensures .0) in
+    let o : SFits w64 (c .scaled-side .result) = record { sfits = c .scaled-side .ok } in
+    rewriting-turn (l .loop .inv) (c .before .before .loop-test .taken) (toZ-ofZ o ∙ e)
 
 returns : tie.Need-returns Inv-loop μ-loop
-returns c =
-    let g = c .before .before in
-    let a = g .args in
-    let q : c .before .loop .i ≡ a .n = omega arith in
-    rw q at (c .before .loop .inv .1)
-    ∙ rewritten-all (pos 0) (side (a .scale) (a .right-sides .now)) (a .residuals .now) (a .n) (g .pre .1)
+returns c = rewriting-ended (pos 0) (c .before .loop .inv) (c .loop-test .left) (c .before .before .pre .1)
 
 pub fill-scaled-sides-spec : {M : Type 1} → statement M
 fill-scaled-sides-spec =

@@ -1,12 +1,10 @@
 -- `judge::fill_scaled_tolerances` meets its contract. The loop's invariant: the places below i are written again, with D f of their rows.
 -- Assumes nothing.
-use mathlib.Core.Path.{_≡_, refl, ap₂, _∙_}
 use mathlib.Core.List.{List}
-use Prim.Native.Nat.{ℕ, _*_, _-_, _≤_}
-use native.Mathlib.Omega.{arith}
-use lib.ListN.{set, getD}
+use Prim.Native.Nat.{ℕ, _*_, _-_}
+use lib.ListN.{getD}
 use borrow.Author.Needs.{needs}
-use Rattle.judge.specs.Places.{rewritten, rewritten-more, rewritten-all}
+use Rattle.judge.specs.Places.{Rewriting, rewriting-begun, rewriting-turn, rewriting-ended}
 use Rattle.judge.proofs.fill_scaled_tolerances.Statement.{statement}
 use Rattle.judge.proofs.fill_scaled_tolerances.Tie as tie
 
@@ -16,13 +14,13 @@ tolerance D f k = D * getD f k 0
 
 abbrev Inv-loop : tie.InvT-loop
 Inv-loop n scale right-tolerances reaches₀ i₀ reaches i =
-    (i ≤ n) × (reaches ≡ rewritten (tolerance scale right-tolerances) reaches₀ i)
+    Rewriting (tolerance scale right-tolerances) reaches₀ n reaches i
 
 abbrev μ-loop : tie.MeasureT-loop
 μ-loop n scale right-tolerances reaches₀ i₀ reaches i = n - i
 
 loop-holds : tie.Need-loop-holds Inv-loop μ-loop
-loop-holds c = (omega arith, refl)
+loop-holds c = rewriting-begun
 
 mul-scaled-tolerance : tie.Need-mul-scaled-tolerance Inv-loop μ-loop
 mul-scaled-tolerance c = search needs
@@ -47,20 +45,10 @@ loop-less c = search needs
 
 loop-again : tie.Need-loop-again Inv-loop μ-loop
 loop-again c =
-    let l = c .before .before .before in
-    let g = l .before .args in
-    let i = l .loop .i in (
-      omega arith,
-      ap₂ (λ l v. set l i v) (l .loop .inv .1) (c .scaled-tolerance .ensures .0) ∙ rewritten-more 0 (tolerance (g .scale) (g .right-tolerances .now)) (g .reaches .now) i,
-    )
+    rewriting-turn (c .before .before .before .loop .inv) (c .before .before .loop-test .taken) (c .scaled-tolerance .ensures .0)
 
 returns : tie.Need-returns Inv-loop μ-loop
-returns c =
-    let g = c .before .before in
-    let a = g .args in
-    let q : c .before .loop .i ≡ a .n = omega arith in
-    rw q at (c .before .loop .inv .1)
-    ∙ rewritten-all 0 (tolerance (a .scale) (a .right-tolerances .now)) (a .reaches .now) (a .n) (g .pre .1)
+returns c = rewriting-ended 0 (c .before .loop .inv) (c .loop-test .left) (c .before .before .pre .1)
 
 pub fill-scaled-tolerances-spec : {M : Type 1} → statement M
 fill-scaled-tolerances-spec =
