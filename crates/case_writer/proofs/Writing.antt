@@ -1,30 +1,19 @@
--- What a run of writes leaves in the buffer: the head, and the tail.
+-- What a run of writes leaves in the buffer at its tail.
 -- Assumes nothing.
 use mathlib.Core.Path.{_≡_, refl, sym, ap, _∙_}
-use mathlib.Core.List.{List, [], _∷_, _++_, append-nil}
-use Prim.Native.Nat.{ℕ, zero, suc, _+_, _-_, _≤_}
+use mathlib.Core.List.{List, [], _++_, append-nil}
+use Prim.Native.Nat.{ℕ, zero, suc, _+_, _-_}
 use native.Mathlib.Omega.{arith}
-use lib.ListN.{length, set, length-append}
-use lib.Seq.{drop-drop, sets-eq}
+use lib.ListN.{length, length-append}
 use lib.IntN.{ℤ}
-use Rattle.bigendian.specs.Number.{bytes}
 use Rattle.buffer.specs.Buffer.{onto}
 use Rattle.buffer.specs.Laws.{part, put, then}
 use Rattle.figures.specs.Figures.{i32, spread}
 use Rattle.figures.specs.FigureLaws.{length-spread}
 use Rattle.fields.specs.Field.{header, field}
 use Rattle.fields.specs.FieldLaws.{length-header, field-is-header}
-use Rattle.casefile.specs.Layout.{headTag, trialTag, trialLength, endTag}
+use Rattle.casefile.specs.Layout.{trialTag, trialLength, endTag}
 use Rattle.casefile.specs.TailLaws.{trialBytes}
-
--- ---- the head
-
-pub head-written : (out l : List ℕ) (n x k : ℕ) → 6 ≤ length l → l ≡ onto (header headTag 3) out
-    → set (set (set l 3 n) 4 x) 5 k ≡ onto (field headTag (n ∷ x ∷ k ∷ [])) out
-unfolding field bytes
-head-written out l n x k h e = sets-eq (n ∷ x ∷ k ∷ []) l 3 h ∙ rw (e, drop-drop 3 3 out)
-
--- ---- the tail
 
 end-header : header endTag 0 ≡ field endTag []
 end-header = sym (append-nil (header endTag 0)) ∙ field-is-header endTag [] 0 refl

@@ -5,13 +5,14 @@ use mathlib.Core.List.{List, [], _∷_, _++_, append-assoc}
 use Prim.Native.Nat.{ℕ, suc, _+_, _-_, _≤_, _<_}
 use native.Mathlib.Omega.{arith}
 use lib.ListN.{length, getD, take, drop, length-append, length-take, length-drop, take-append-drop}
-use lib.Seq.{drop-drop, drop-at, drop-cons}
+use lib.Seq.{drop-drop, drop-at, drop-cons, sets, sets-eq}
 use lib.Dec.{leb, eqb}
 use borrow.Author.Tests.{le-leb, leb-true, eq-eqb, eqb-true}
 use Rattle.outcome.specs.declared.Refusal.the-variants.{FieldMissing, WrongTag, WrongLength}
 use Rattle.outcome.specs.declared.Status.the-variants.{Accepted}
 use Rattle.outcome.specs.Outcome.{check}
 use Rattle.outcome.specs.Laws.{check-accepted, first-accepted}
+use Rattle.buffer.specs.Buffer.{onto}
 use Rattle.bigendian.specs.Number.{be, bytes}
 use Rattle.bigendian.specs.NumberLaws.{Bytes, be-bytes, length-bytes, bytes-of, bytes-drop}
 use Rattle.fields.specs.Field.{header, headerSize, field, valueOf, afterField, fieldStatus}
@@ -26,6 +27,17 @@ length-field tag v = length-append (header tag (length v)) v ∙ omega (arith, l
 pub field-is-header : (tag : ℕ) (v : List ℕ) (len : ℕ) → length v ≡ len → header tag len ++ v ≡ field tag v
 unfolding field
 field-is-header tag v len e = rw e
+
+-- the value stored byte by byte behind the header
+pub field-stored : (tag : ℕ) (v out l : List ℕ) → headerSize + length v ≤ length l → l ≡ onto (header tag (length v)) out
+    → sets l headerSize v ≡ onto (field tag v) out
+unfolding field bytes
+field-stored tag v out l h e =
+    let k : headerSize + length v ≡ suc (suc (suc (length v))) = omega arith in
+    let o = onto (header tag (length v)) out in
+    let d : drop (headerSize + length v) o ≡ drop (headerSize + length v) out =
+    sym (drop-drop (length v) headerSize o) ∙ drop-drop (length v) headerSize out in
+    sets-eq v l headerSize h ∙ rw (e, d, k)
 
 -- ---- a field that was written, with what follows it
 

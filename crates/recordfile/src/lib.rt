@@ -35,9 +35,7 @@ fn write_verdict(out: &mut [u8], met: bool, unmet: u8, rounds: u8)
     ensures { λ _. ⌜ now (out .exit) ≡ onto (verdictField met unmet rounds) (now (out .entry)) ⌝ }
 {
     let m = flag(met);
-    out[0] = VERDICT_TAG;
-    out[1] = 0;
-    out[2] = 3;
+    fields::write_header(out, VERDICT_TAG, 3);
     out[3] = m;
     out[4] = unmet;
     out[5] = rounds;
@@ -86,9 +84,7 @@ fn write_factor(out: &mut [u8], none: bool, decides: u8)
     ensures { λ _. ⌜ now (out .exit) ≡ onto (factorField none decides) (now (out .entry)) ⌝ }
 {
     let m = flag(none);
-    out[0] = FACTOR_TAG;
-    out[1] = 0;
-    out[2] = 2;
+    fields::write_header(out, FACTOR_TAG, 2);
     out[3] = m;
     out[4] = decides;
 }
@@ -111,7 +107,8 @@ fn write_rows<'a>(out: &mut [u8], n: usize, residuals: &'a [i64; 8], reaches: &'
     write_pairs(&mut out[fields::HEADER_SIZE..], n, residuals, reaches);
 }
 
-// Fields 10 to 13 of an answer over the front of out: its n figures, the rounds used, and its judgement.
+// Fields 10 to 13 of an answer over the front of out: its n figures, the rounds used, and its judgement. Field 11 begins at byte 6, behind its n
+// figures field 12, and behind n rows field 13.
 fn write_judged(out: &mut [u8], n: usize, rounds: usize, answer: &[i32; 8], judgement: Judgement)
     requires { ⌜ Holds n rounds judgement (length (now out)) ⌝ }
     ensures { λ _. ⌜ now (out .exit) ≡ onto (judgedFields n rounds (now (answer .entry)) judgement) (now (out .entry)) ⌝ }

@@ -1,9 +1,11 @@
 -- `case_writer::write_head` meets its contract: the header, then three bytes behind it.
 -- Assumes nothing.
+use mathlib.Core.List.{[], _∷_}
 use native.Mathlib.Omega.{arith}
 use lib.ListN.{length-set}
 use denote.Ref.{now}
-use Rattle.case_writer.proofs.Writing.{head-written}
+use Rattle.fields.specs.FieldLaws.{field-stored}
+use Rattle.casefile.specs.Layout.{headTag}
 use borrow.Author.Needs.{needs}
 use Rattle.case_writer.proofs.write_head.Statement.{statement}
 use Rattle.case_writer.proofs.write_head.Tie as tie
@@ -36,8 +38,11 @@ same-length : tie.Need-same-length
 same-length c = search needs
 
 returns : tie.Need-returns
-returns c = let a = c .before .before .before .before .before .args in
-    head-written (now (a .out)) (c .before .before .write-header .last .0) (a .n) (a .exponent) (a .rounds) (omega (arith, c .before .before .before .before .before .pre, c .before .before .write-header .kept)) (c .before .before .write-header .ensures)
+returns c =
+    let s = c .before .before .before .before .before in
+    let a = s .args in
+    let w = c .before .before .write-header in
+    field-stored headTag (a .n ∷ a .exponent ∷ a .rounds ∷ []) (now (a .out)) (w .last .0) (omega (arith, s .pre, w .kept)) (w .ensures)
 
 pub write-head-spec : {M : Type 1} → statement M
 write-head-spec =
