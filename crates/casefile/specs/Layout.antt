@@ -70,6 +70,9 @@ pub record Row : Type 0 where
   pub right-side : List ℤ
   pub right-tolerance : List ℕ
 
+abbrev pub rowMade : List ℤ → List ℕ → List ℤ → List ℕ → Row
+rowMade a t b f = record { coefficients = a; tolerances = t; right-side = b; right-tolerance = f }
+
 -- "n coefficients of 2 bytes, n tolerances of 2 bytes (unsigned), b (4 bytes), f (4 bytes, unsigned)"
 unfoldable pub rowBytes : Row → List ℕ
 rowBytes r =
@@ -83,8 +86,7 @@ rowField r = field rowTag (rowBytes r)
 unfoldable pub split : ℕ → ℕ → List ℤ → List ℕ → List ℤ → List ℕ → List Row
 split n zero a t b f = []
 split n (suc m) a t b f =
-    record { coefficients = take n a; tolerances = take n t; right-side = take 1 b; right-tolerance = take 1 f }
-    ∷ split n m (drop n a) (drop n t) (drop 1 b) (drop 1 f)
+    rowMade (take n a) (take n t) (take 1 b) (take 1 f) ∷ split n m (drop n a) (drop n t) (drop 1 b) (drop 1 f)
 
 abbrev pub rowsIn : Case → List Row
 rowsIn c = split (c .n) (c .n) (c .coefficients) (c .tolerances) (c .right-sides) (c .right-tolerances)

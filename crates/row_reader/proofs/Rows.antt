@@ -16,11 +16,11 @@ use Rattle.outcome.specs.Laws.{first-stops, first-goes-on, not-both}
 use Rattle.buffer.specs.Buffer.{onto}
 use Rattle.buffer.specs.Laws.{filled, length-onto}
 use Rattle.fields.specs.Field.{valueOf}
-use Rattle.casefile.specs.Layout.{joined, rowSize, Row}
+use Rattle.casefile.specs.Layout.{joined, rowSize, Row, rowMade}
 use Rattle.casefile.specs.Decode.{rowOf, rowStatus, rowsStatus, rowsOf}
 use Rattle.casefile.specs.RowLaws.{row-sound, row-room}
 use Rattle.casefile.specs.CaseLaws.{joined-append}
-use Rattle.row_reader.specs.Read.{rowMade, RowRead, RowsRoom, RowsRead}
+use Rattle.row_reader.specs.Read.{RowRead, RowsRoom, RowsRead}
 
 -- one list: what stands over its front is a part of each row so far
 record Filled {X : Type 0} (f : Row → List X) (done : List Row) (from : ℕ) (xs₀ xs : List X) : Type 0 where

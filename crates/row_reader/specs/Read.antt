@@ -10,11 +10,8 @@ use Rattle.outcome.specs.declared.Status.the-variants.{Accepted}
 use Rattle.buffer.specs.Buffer.{onto}
 use Rattle.fields.specs.Field.{valueOf}
 use Rattle.casefile.specs.Case.{mostTanks}
-use Rattle.casefile.specs.Layout.{rowLength, Row, joined}
+use Rattle.casefile.specs.Layout.{rowLength, Row, rowMade, joined}
 use Rattle.casefile.specs.Decode.{rowOf, rowFine, rowStatus, rowsStatus, rowsOf}
-
-abbrev pub rowMade : List ℤ → List ℕ → List ℤ → List ℕ → Row
-rowMade a t b f = record { coefficients = a; tolerances = t; right-side = b; right-tolerance = f }
 
 -- the bytes of a row's value stand from a place of s on, and the lists have its counts
 pub record RowHere (s : List ℕ) (at : ℕ) (a : List ℤ) (t : List ℕ) (b : List ℤ) (f : List ℕ) : Type 0 where

@@ -14,8 +14,8 @@ use Rattle.figures.specs.Figures.{i16, u16, i32, u32, spread}
 use Rattle.figures.specs.FigureLaws.{length-spread}
 use Rattle.fields.specs.Field.{header}
 use Rattle.fields.specs.FieldLaws.{length-header, length-field, field-is-header}
-use Rattle.casefile.specs.Layout.{joined, rowTag, rowLength, rowSize, rowBytes, rowField, split}
-use Rattle.row_writer.specs.Room.{RowRoom, rowMade, RowsRoom}
+use Rattle.casefile.specs.Layout.{joined, rowTag, rowLength, rowSize, rowMade, rowBytes, rowField, split}
+use Rattle.row_writer.specs.Room.{RowRoom, RowsRoom}
 
 -- ---- a row
 

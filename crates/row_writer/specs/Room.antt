@@ -5,7 +5,7 @@ use Prim.Native.Nat.{ℕ, _*_, _≤_}
 use lib.ListN.{length}
 use lib.IntN.{ℤ}
 use Rattle.casefile.specs.Case.{mostTanks}
-use Rattle.casefile.specs.Layout.{rowSize, Row}
+use Rattle.casefile.specs.Layout.{rowSize}
 
 pub record RowRoom (out : List ℕ) (a : List ℤ) (t : List ℕ) (b : List ℤ) (f : List ℕ) : Type 0 where
   pub room : rowSize (length a) ≤ length out
@@ -13,9 +13,6 @@ pub record RowRoom (out : List ℕ) (a : List ℤ) (t : List ℕ) (b : List ℤ)
   pub lt : length t ≡ length a
   pub lb : length b ≡ 1
   pub lf : length f ≡ 1
-
-abbrev pub rowMade : List ℤ → List ℕ → List ℤ → List ℕ → Row
-rowMade a t b f = record { coefficients = a; tolerances = t; right-side = b; right-tolerance = f }
 
 pub record RowsRoom (out : List ℕ) (n : ℕ) (a : List ℤ) (t : List ℕ) (b : List ℤ) (f : List ℕ) : Type 0 where
   pub room : n * rowSize n ≤ length out

@@ -1,8 +1,8 @@
 // The writer of the rows of a case.
 ghost use mathlib.Core.Path.{_≡_};
 ghost use Rattle.buffer.specs.Buffer.{onto};
-ghost use Rattle.casefile.specs.Layout.{joined, rowField, split};
-ghost use Rattle.row_writer.specs.Room.{RowRoom, rowMade, RowsRoom};
+ghost use Rattle.casefile.specs.Layout.{joined, rowMade, rowField, split};
+ghost use Rattle.row_writer.specs.Room.{RowRoom, RowsRoom};
 use fields::HEADER_SIZE;
 
 // A row's field, over the front of out.

@@ -13,6 +13,7 @@ use borrow.Author.Tests.{not-true, not-false}
 use Rattle.figures.specs.Figures.{Read, i16, u16, i32, u32, within, upTo, all, after}
 use Rattle.figures.specs.LoopLaws.{no}
 use Rattle.casefile.specs.Case.{coefficientLimit, toleranceLimit, rightSideLimit, rightToleranceLimit}
+use Rattle.casefile.specs.Layout.{rowMade}
 use Rattle.casefile.specs.Decode.{rowOf, rowFine}
 use borrow.Author.Needs.{needs}
 use Rattle.row_reader.proofs.read_figures.Statement.{statement}
@@ -39,6 +40,14 @@ module _ (n : ℕ) (v : List ℕ) where
   unfolding rowFine
   fine-is e1 e2 e3 e4 = rw (e1, e2, e3, e4)
 
+  made-is : {a : List ℤ} {t : List ℕ} {b : List ℤ} {f : List ℕ}
+      → a ≡ rowOf n v .coefficients
+      → t ≡ rowOf n v .tolerances
+      → b ≡ rowOf n v .right-side
+      → f ≡ rowOf n v .right-tolerance
+      → rowMade a t b f ≡ rowOf n v
+  made-is e1 e2 e3 e4 = rw (e1, e2, e3, e4)
+
 -- what a run gives of the row: its test, and where that passed its figures
 Run : {X : Type 0} → (X → Bool) → List X → Bool → List X → Type 0
 Run f row r l = (r ≡ all f row) × (r ≡ true → l ≡ row)
@@ -64,131 +73,127 @@ module _ (s : List ℕ) (at n : ℕ) where
   unfolding Run rowOf
   run-4 f₀ f r e q = (rw (e, behind-3 s at n) at (q .test), λ h. rw (e, behind-3 s at n) at (q .made h))
 
-mul-tolerances : tie.Need-mul-tolerances
-mul-tolerances c = search needs
+-- ---- the four runs, each where it has been read
 
-add-tolerances : tie.Need-add-tolerances
-add-tolerances c = omega (arith, c .before .before .before .pre, c .before .before .before .good)
+module _ (c : tie.After-read-i16s) where
+  abbrev start : tie.Start
+  start = c .before .before .before .before .before
 
-mul-right-side : tie.Need-mul-right-side
-mul-right-side c = search needs
+  abbrev s′ : List ℕ
+  s′ = now (start .args .s)
 
-add-right-side : tie.Need-add-right-side
-add-right-side c = omega (arith, c .before .before .before .pre, c .before .before .before .good)
+  abbrev at′ : ℕ
+  at′ = start .args .at
 
-add-right-tolerance : tie.Need-add-right-tolerance
-add-right-tolerance c = omega (arith, c .before .before .before .pre, c .before .before .before .good)
+  abbrev value : List ℕ
+  value = drop at′ s′
 
-read-i16s-requires : tie.Need-read-i16s-requires
-read-i16s-requires c κs = omega (arith, c .before .before .before .before .pre)
+  abbrev n′ : ℕ
+  n′ = length (now (start .args .a))
 
-same-length : tie.Need-same-length
-same-length c = search needs
+  coefficients : Run (within coefficientLimit) (rowOf n′ value .coefficients) (c .read-i16s .result) (c .read-i16s .last .1 .1 .1 .0)
+  coefficients = run-1 s′ at′ _ _ _ _ refl (c .read-i16s .ensures)
+
+module _ (c : tie.After-read-u16s) where
+  abbrev first : tie.After-read-i16s
+  first = c .before .before .before .before
+
+  first-passed : first .read-i16s .result ≡ true
+  first-passed = not-false _ (c .before .before .if1 .left)
+
+  tolerances : Run (upTo toleranceLimit) (rowOf (n′ first) (value first) .tolerances) (c .read-u16s .result) (c .read-u16s .last .1 .1 .1 .0)
+  tolerances = run-2 (s′ first) (at′ first) _ _ _ _ (start first .pre .lt) (c .read-u16s .ensures)
+
+module _ (c : tie.After-read-i32s) where
+  abbrev second : tie.After-read-u16s
+  second = c .before .before .before .before .before
+
+  second-passed : second .read-u16s .result ≡ true
+  second-passed = not-false _ (c .before .before .if2 .left)
+
+  right-side : Run (within rightSideLimit) (rowOf (n′ (first second)) (value (first second)) .right-side) (c .read-i32s .result) (c .read-i32s .last .1 .1 .1 .0)
+  right-side = run-3 (s′ (first second)) (at′ (first second)) _ _ _ _ (start (first second) .pre .lb) (c .read-i32s .ensures)
+
+module _ (c : tie.After-read-u32s) where
+  abbrev third : tie.After-read-i32s
+  third = c .before .before .before .before
+
+  third-passed : third .read-i32s .result ≡ true
+  third-passed = not-false _ (c .before .before .if3 .left)
+
+  abbrev begin : tie.After-read-i16s
+  begin = first (second third)
+
+  right-tolerance : Run (upTo rightToleranceLimit) (rowOf (n′ begin) (value begin) .right-tolerance) (c .read-u32s .result) (c .read-u32s .last .1 .1 .1 .0)
+  right-tolerance = run-4 (s′ begin) (at′ begin) _ _ _ _ (start begin .pre .lf) (c .read-u32s .ensures)
+
+-- ---- the answers
 
 returns : tie.Need-returns
 unfolding Run
-returns c = let p = c .before .before .before .before .before .before .before .pre in
-    let s = now (c .before .before .before .before .before .before .before .args .s) in
-    let at = c .before .before .before .before .before .before .before .args .at in
-    let q1 = run-1 s at _ _ _ _ refl (c .before .before .read-i16s .ensures) in
-    record { fine = fine-is _ _ (sym (not-true _ (c .if1 .taken)) ∙ q1 .0) refl refl refl; made = λ e. no e }
-
-read-u16s-requires : tie.Need-read-u16s-requires
-read-u16s-requires c κs = omega (arith, c .before .before .before .before .before .before .before .before .pre)
-
-same-length-2 : tie.Need-same-length-2
-same-length-2 c = search needs
-
-same-length-3 : tie.Need-same-length-3
-same-length-3 c = search needs
+returns c =
+    let w = c .before .before in
+    record { fine = fine-is _ _ (sym (not-true _ (c .if1 .taken)) ∙ coefficients w .0) refl refl refl; made = λ e. no e }
 
 returns-2 : tie.Need-returns-2
 unfolding Run
-returns-2 c = let p = c .before .before .before .before .before .before .before .before .before .before .before .before .pre in
-    let s = now (c .before .before .before .before .before .before .before .before .before .before .before .before .args .s) in
-    let at = c .before .before .before .before .before .before .before .before .before .before .before .before .args .at in
-    let q1 = run-1 s at _ _ _ _ refl (c .before .before .before .before .before .before .before .read-i16s .ensures) in
-    let q2 = run-2 s at _ _ _ _ (p .lt) (c .before .before .before .read-u16s .ensures) in
-    let h1 = not-false _ (c .before .before .before .before .before .if1 .left) in
-    record { fine = fine-is _ _ (sym h1 ∙ q1 .0) (sym (not-true _ (c .if2 .taken)) ∙ q2 .0) refl refl; made = λ e. no e }
-
-read-i32s-requires : tie.Need-read-i32s-requires
-read-i32s-requires c κs = omega (arith, c .before .before .before .before .before .before .before .before .before .before .before .before .before .pre)
-
-same-length-4 : tie.Need-same-length-4
-same-length-4 c = search needs
-
-same-length-5 : tie.Need-same-length-5
-same-length-5 c = search needs
-
-same-length-6 : tie.Need-same-length-6
-same-length-6 c = search needs
+returns-2 c =
+    let w = c .before .before .before in
+    record {
+      fine = fine-is _ _ (sym (first-passed w) ∙ coefficients (first w) .0) (sym (not-true _ (c .if2 .taken)) ∙ tolerances w .0) refl refl;
+      made = λ e. no e;
+    }
 
 returns-3 : tie.Need-returns-3
 unfolding Run
-returns-3 c = let p = c .before .before .before .before .before .before .before .before .before .before .before .before .before .before .before .before .pre in
-    let s = now (c .before .before .before .before .before .before .before .before .before .before .before .before .before .before .before .before .args .s) in
-    let at = c .before .before .before .before .before .before .before .before .before .before .before .before .before .before .before .before .args .at in
-    let q1 = run-1 s at _ _ _ _ refl (c .before .before .before .before .before .before .before .before .before .before .before .read-i16s .ensures) in
-    let q2 = run-2 s at _ _ _ _ (p .lt) (c .before .before .before .before .before .before .before .read-u16s .ensures) in
-    let q3 = run-3 s at _ _ _ _ (p .lb) (c .before .before .read-i32s .ensures) in
-    let h1 = not-false _ (c .before .before .before .before .before .before .before .before .before .if1 .left) in
-    let h2 = not-false _ (c .before .before .before .before .if2 .left) in
-    record { fine = fine-is _ _ (sym h1 ∙ q1 .0) (sym h2 ∙ q2 .0) (sym (not-true _ (c .if3 .taken)) ∙ q3 .0) refl; made = λ e. no e }
-
-read-u32s-requires : tie.Need-read-u32s-requires
-read-u32s-requires c κs = omega (arith, c .before .before .before .before .before .before .before .before .before .before .before .before .before .before .before .before .before .pre)
-
-same-length-7 : tie.Need-same-length-7
-same-length-7 c = search needs
-
-same-length-8 : tie.Need-same-length-8
-same-length-8 c = search needs
-
-same-length-9 : tie.Need-same-length-9
-same-length-9 c = search needs
-
-same-length-10 : tie.Need-same-length-10
-same-length-10 c = search needs
+returns-3 c =
+    let w = c .before .before in
+    let v = second w in
+    record {
+      fine =
+          fine-is _ _ (sym (first-passed v) ∙ coefficients (first v) .0) (sym (second-passed w) ∙ tolerances v .0)
+          (sym (not-true _ (c .if3 .taken)) ∙ right-side w .0) refl;
+      made = λ e. no e;
+    }
 
 returns-4 : tie.Need-returns-4
 unfolding Run
-returns-4 c = let p = c .before .before .before .before .before .before .before .before .before .before .before .before .before .before .before .before .before .before .before .before .pre in
-    let s = now (c .before .before .before .before .before .before .before .before .before .before .before .before .before .before .before .before .before .before .before .before .args .s) in
-    let at = c .before .before .before .before .before .before .before .before .before .before .before .before .before .before .before .before .before .before .before .before .args .at in
-    let q1 = run-1 s at _ _ _ _ refl (c .before .before .before .before .before .before .before .before .before .before .before .before .before .before .before .read-i16s .ensures) in
-    let q2 = run-2 s at _ _ _ _ (p .lt) (c .before .before .before .before .before .before .before .before .before .before .before .read-u16s .ensures) in
-    let q3 = run-3 s at _ _ _ _ (p .lb) (c .before .before .before .before .before .before .read-i32s .ensures) in
-    let q4 = run-4 s at _ _ _ _ (p .lf) (c .before .before .read-u32s .ensures) in
-    let h1 = not-false _ (c .before .before .before .before .before .before .before .before .before .before .before .before .before .if1 .left) in
-    let h2 = not-false _ (c .before .before .before .before .before .before .before .before .if2 .left) in
-    let h3 = not-false _ (c .before .before .before .before .if3 .left) in
-    record { fine = fine-is _ _ (sym h1 ∙ q1 .0) (sym h2 ∙ q2 .0) (sym h3 ∙ q3 .0) (q4 .0); made = λ h4. rw (q1 .1 h1, q2 .1 h2, q3 .1 h3, q4 .1 h4) }
+returns-4 c =
+    let w = c .before .before in
+    let v = third w in
+    let u = second v in
+    record {
+      fine =
+          fine-is _ _ (sym (first-passed u) ∙ coefficients (first u) .0) (sym (second-passed v) ∙ tolerances u .0)
+          (sym (third-passed w) ∙ right-side v .0) (right-tolerance w .0);
+      made = λ h.
+          made-is _ _ (coefficients (first u) .1 (first-passed u)) (tolerances u .1 (second-passed v)) (right-side v .1 (third-passed w)) (right-tolerance w .1 h);
+    }
 
 pub read-figures-spec : {M : Type 1} → statement M
 read-figures-spec =
     tie.close
     (tie.spec
-    mul-tolerances
-    add-tolerances
-    mul-right-side
-    add-right-side
-    add-right-tolerance
-    read-i16s-requires
-    same-length
+    (λ c. search needs)
+    (λ c. omega (arith, c .before .before .before .pre, c .before .before .before .good))
+    (λ c. search needs)
+    (λ c. omega (arith, c .before .before .before .pre, c .before .before .before .good))
+    (λ c. omega (arith, c .before .before .before .pre, c .before .before .before .good))
+    (λ c κs. omega (arith, c .before .before .before .before .pre))
+    (λ c. search needs)
     returns
-    read-u16s-requires
-    same-length-2
-    same-length-3
+    (λ c κs. omega (arith, c .before .before .before .before .before .before .before .before .pre))
+    (λ c. search needs)
+    (λ c. search needs)
     returns-2
-    read-i32s-requires
-    same-length-4
-    same-length-5
-    same-length-6
+    (λ c κs. omega (arith, c .before .before .before .before .before .before .before .before .before .before .before .before .before .pre))
+    (λ c. search needs)
+    (λ c. search needs)
+    (λ c. search needs)
     returns-3
-    read-u32s-requires
-    same-length-7
-    same-length-8
-    same-length-9
-    same-length-10
+    (λ c κs. omega (arith, c .before .before .before .before .before .before .before .before .before .before .before .before .before .before .before .before .before .pre))
+    (λ c. search needs)
+    (λ c. search needs)
+    (λ c. search needs)
+    (λ c. search needs)
     returns-4)
