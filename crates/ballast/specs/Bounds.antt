@@ -1,46 +1,32 @@
 -- What the limits of a case give the call: nothing wraps, and every figure fits its place in the record. Assumes nothing.
-use mathlib.Core.Path.{_≡_, refl}
-use mathlib.Core.Bool.{Bool, true, false, _&&_}
-use mathlib.Core.List.{List, [], _∷_}
-use Prim.Native.Nat.{ℕ, zero, suc, _+_, _*_, _^_, _≤_, _<_}
+use mathlib.Core.Path.{_≡_}
+use mathlib.Core.Bool.{true}
+use mathlib.Core.List.{List}
+use Prim.Native.Nat.{ℕ, zero, suc, _*_, _^_, _≤_, _<_}
 use native.Mathlib.Nat.{mul-le-mul}
 use native.Mathlib.Omega.{arith}
 use lib.Dec.{lit≤}
 use lib.ListN.{getD}
 use lib.IntN.{ℤ, pos, natAbs}
 use borrow.Author.Tests.{le-leb, leb-true}
-use Rattle.integers.specs.Sums.{total-bound}
 use Rattle.figures.specs.Figures.{upTo, within, all}
+use Rattle.figures.specs.FigureLaws.{all-at}
 use Rattle.casefile.specs.Case.{Case}
 use Rattle.casefile.specs.CaseLaws.{Good}
 use Rattle.casefile.specs.Decode.{padded, stored}
 use Rattle.casefile.specs.StoredLaws.{getD-padded}
 use Rattle.judge.specs.System.{system, row, trial, reach}
+use Rattle.judge.specs.Sizes.{reach-size}
 use Rattle.solver.specs.Limits.{Limits}
 use Rattle.solver.specs.Sizes.{limits-enough}
 use Rattle.ballast.specs.Call.{scaleOf, systemOf}
 
--- a test of every figure holds at every place, past the end too
-module _ {X : Type 0} (p : X → Bool) (d : X) (pd : p d ≡ true) where
-  every : (l : List X) → all p l ≡ true → (i : ℕ) → p (getD l i d) ≡ true
-  unfolding all
-  every [] h i = pd
-  every (x ∷ l) h zero = and-left (p x) (all p l) h
-    where
-      and-left : (a b : Bool) → a && b ≡ true → a ≡ true
-      and-left true b e = refl
-      and-left false b e = e
-  every (x ∷ l) h (suc i) = every l (and-right (p x) (all p l) h) i
-    where
-      and-right : (a b : Bool) → a && b ≡ true → b ≡ true
-      and-right true b e = e
-      and-right false b e = let z : _≡_ {A = ℕ} 0 1 = cc in absurd (omega arith)
-
+-- a figure of a list that passed the test
 signed-every : (limit : ℕ) (l : List ℤ) → all (within limit) l ≡ true → (i : ℕ) → natAbs (getD l i (pos 0)) ≤ limit
-signed-every limit l h i = leb-true _ _ (every (within limit) (pos 0) (le-leb 0 limit (omega arith)) l h i)
+signed-every limit l h i = leb-true _ _ (all-at (within limit) (pos 0) (le-leb 0 limit (omega arith)) l h i)
 
 unsigned-every : (limit : ℕ) (l : List ℕ) → all (upTo limit) l ≡ true → (i : ℕ) → getD l i 0 ≤ limit
-unsigned-every limit l h i = leb-true _ _ (every (upTo limit) 0 (le-leb 0 limit (omega arith)) l h i)
+unsigned-every limit l h i = leb-true _ _ (all-at (upTo limit) 0 (le-leb 0 limit (omega arith)) l h i)
 
 scale-le : (e : ℕ) → e ≤ 3 → scaleOf e ≤ 1000
 scale-le zero h = lit≤ tt
@@ -66,16 +52,16 @@ module _ (c : Case) (g : Good c) where
   -- a reach within the limits of the tolerances and of the answer
   pub reach-le : (Y : List ℤ) → ((i : ℕ) → natAbs (getD Y i (pos 0)) ≤ 10000000) → (i : ℕ)
       → reach (row (systemOf (stored c)) i) (trial (c .n) (scaleOf (c .exponent)) Y) < 256 ^ 8
-  unfolding reach stored
+  unfolding stored
   reach-le Y y i =
-      let f : getD (padded 8 0 (c .right-tolerances)) i 0 ≤ 1000000000 =
-      rw (getD-padded 0 8 (c .right-tolerances) i) (unsigned-every 1000000000 (c .right-tolerances) (g .lists .ff) i) in
+      let s = systemOf (stored c) in
+      let f : (k : ℕ) → getD (padded 8 0 (c .right-tolerances)) k 0 ≤ 1000000000 =
+      λ k. rw (getD-padded 0 8 (c .right-tolerances) k) (unsigned-every 1000000000 (c .right-tolerances) (g .lists .ff) k) in
       let e : (k : ℕ) → getD (padded 64 0 (c .tolerances)) k 0 ≤ 32767 =
       λ k. rw (getD-padded 0 64 (c .tolerances) k) (unsigned-every 32767 (c .tolerances) (g .lists .ft) k) in
-      let t = total-bound (c .n) (32767 * 10000000) (λ j. getD (padded 64 0 (c .tolerances)) (i * c .n + j) 0 * natAbs (getD Y j (pos 0))) (λ j l. mul-le-mul (e (i * c .n + j)) (y j)) in
-      let s = mul-le-mul (scale-le (c .exponent) (g .exponent-small)) f in
+      let D = mul-le-mul {m₁ = 1000000000} {m₂ = 1000000000} (scale-le (c .exponent) (g .exponent-small)) (lit≤ tt) in
       let n = mul-le-mul {m₁ = 32767 * 10000000} {m₂ = 32767 * 10000000} (g .small) (lit≤ tt) in
-      omega arith
+      omega (arith, reach-size s (trial (c .n) (scaleOf (c .exponent)) Y) 32767 1000000000 10000000 e f y i)
 
 -- the zeros behind a stored case's figures change nothing: its rows are those of the case's own lists
 pub stored-row : (c : Case) (i : ℕ)

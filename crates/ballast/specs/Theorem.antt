@@ -1,6 +1,6 @@
 -- The third demand holds of every record that the call leaves: what is read off the bytes is the judgement of the recorded answer, and that is
 -- justified by the theorem of Oettli and Prager. Assumes nothing.
-use mathlib.Core.Path.{_≡_, refl, sym, ap, ap₂, subst, _∙_}
+use mathlib.Core.Path.{_≡_, refl, sym, ap, subst, _∙_}
 use mathlib.Core.Bool.{Bool, true, false, cond}
 use mathlib.Core.List.{List}
 use Prim.Native.Nat.{ℕ, zero, suc, _^_, _≤_, _<_}
@@ -23,10 +23,10 @@ use Rattle.casefile.specs.CaseLaws.{Good, good, decode-fine}
 use Rattle.casefile.specs.Decode.{Decoded, accepted, refused, decode, stored}
 use Rattle.casefile.specs.Write.{leaves}
 use Rattle.judge.specs.System.{System, Trial, row, trial, residual, reach}
-use Rattle.judge.specs.Judgement.{no-factor, deciding, judgement}
+use Rattle.judge.specs.Judgement.{judgement}
 use Rattle.judge.specs.Finding.{Justified, Agrees}
-use Rattle.judge.specs.Laws.{unmet-le, deciding-below, at-residuals, at-reaches}
-use Rattle.judge.specs.Agreement.{agrees-with}
+use Rattle.judge.specs.Laws.{unmet-le, deciding-below}
+use Rattle.judge.specs.Agreement.{judgement-agrees, agrees-with}
 use Rattle.judge.specs.Theorem.{justified}
 use Rattle.recordfile.specs.Layout.{recordOf, recordLength, Holds}
 use Rattle.recordfile.specs.Laws.{length-record, longest-record}
@@ -68,17 +68,16 @@ module _ (s : System) (D rounds : ℕ) (Y : List ℤ) (h : 0 < s .n) (k : s .n �
 
   -- the bytes agree with the judgement
   said : Agrees s t (recordedFinding (s .n) bytes)
-  unfolding judgement
   said =
+      let j = judgement s t in
+      let g = judgement-agrees s t h k in
       record {
-        met = recorded-met (s .n) rounds Y (judgement s t);
-        unmet = recorded-unmet (s .n) rounds Y (judgement s t);
-        none =
-            recorded-none (s .n) rounds Y (judgement s t)
-            ∙ ap₂ no-factor (at-residuals s t k (deciding s t) (deciding-below s t h)) (at-reaches s t k (deciding s t) (deciding-below s t h));
-        decides = recorded-decides (s .n) rounds Y (judgement s t);
-        R = λ i l. recorded-residual (s .n) rounds Y (judgement s t) i l (rw (at-residuals s t k i l) (fits-residual i)) ∙ at-residuals s t k i l;
-        T = λ i l. recorded-reach (s .n) rounds Y (judgement s t) i l (rw (at-reaches s t k i l) (fits-reach i)) ∙ at-reaches s t k i l;
+        met = recorded-met (s .n) rounds Y j ∙ g .met;
+        unmet = recorded-unmet (s .n) rounds Y j ∙ g .unmet;
+        none = recorded-none (s .n) rounds Y j ∙ g .none;
+        decides = recorded-decides (s .n) rounds Y j ∙ g .decides;
+        R = λ i l. recorded-residual (s .n) rounds Y j i l (rw (g .R i l) (fits-residual i)) ∙ g .R i l;
+        T = λ i l. recorded-reach (s .n) rounds Y j i l (rw (g .T i l) (fits-reach i)) ∙ g .T i l;
       }
 
   answered : (j : ℕ) → j < s .n → recordedAnswer bytes j ≡ getD Y j (pos 0)
@@ -182,21 +181,22 @@ module _ (c : Case) (g : Good c) where
 
   pub recordable : (room : ℕ) → shortest ≤ room → worked (stored c) .status ≡ Answered
       → Holds (c .n) (worked (stored c) .rounds) (worked (stored c) .judgement) room
-  unfolding worked stored judgement
+  unfolding worked stored
   recordable room h e =
       let r = rounds-le (c .rounds) (g .rounds-small) e in
       let j = worked-answer c g .judgement-is in
       let u = ap (λ k. k .unmet) j in
       let d = ap (λ k. k .decides) j in
       let t = trial (c .n) (scaleOf (c .exponent)) (worked (stored c) .trial) in
+      let a = judgement-agrees (systemOf (stored c)) t (omega (arith, g .least)) (g .small) in
       let ul = unmet-le (systemOf (stored c)) t in
       let dl = deciding-below (systemOf (stored c)) t (omega (arith, g .least)) in
       let small = g .small in
       record {
         rows = g .small;
         rounds-byte = omega arith;
-        unmet-byte = omega (arith, u, ul);
-        decides-byte = omega (arith, d, dl);
+        unmet-byte = omega (arith, u, a .unmet, ul);
+        decides-byte = omega (arith, d, a .decides, dl);
         enough = omega arith;
       }
 

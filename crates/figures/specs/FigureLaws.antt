@@ -6,7 +6,7 @@ use mathlib.Core.Bool.{Bool, true, false, _&&_}
 use Prim.Native.Nat.{ℕ, zero, suc, _+_, _*_, _^_, _≤_, _<_}
 use native.Mathlib.Omega.{arith}
 use native.Mathlib.Nat.{mul-zero, mul-suc, add-comm}
-use lib.ListN.{length, take, drop, length-append, length-drop, take-append-drop}
+use lib.ListN.{length, getD, take, drop, length-append, length-drop, take-append-drop}
 use lib.Seq.{take-at, drop-at, drop-drop}
 use lib.Dec.{leb}
 use lib.IntN.{ℤ, natAbs}
@@ -42,6 +42,13 @@ module _ {X : Type 0} (p : X → Bool) where
   all-drop zero l e = e
   all-drop (suc n) [] e = refl
   all-drop (suc n) (x ∷ l) e = all-drop n l (and-true (p x) (all p l) e .1)
+
+  -- at every place, past the end too
+  pub all-at : (d : X) → p d ≡ true → (l : List X) → all p l ≡ true → (i : ℕ) → p (getD l i d) ≡ true
+  unfolding all
+  all-at d e [] h i = e
+  all-at d e (x ∷ l) h zero = and-true (p x) (all p l) h .0
+  all-at d e (x ∷ l) h (suc i) = all-at d e l (and-true (p x) (all p l) h .1) i
 
 -- ---- a kind holds the figures that pass a test
 

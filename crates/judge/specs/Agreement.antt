@@ -1,14 +1,27 @@
--- A judgement looks at the answer's n figures only, so an answer that agrees in those is judged alike. Assumes nothing.
-use mathlib.Core.Path.{_≡_, ap, ap₂, _∙_}
-use Prim.Native.Nat.{ℕ, suc, _*_, _+_, _<_}
+-- The judgement says what it is, and looks at the answer's n figures only: an answer that agrees in those is judged alike. Assumes nothing.
+use mathlib.Core.Path.{_≡_, refl, ap, ap₂, _∙_}
+use Prim.Native.Nat.{ℕ, suc, _*_, _+_, _<_, _≤_}
 use lib.Dec.{eqb}
 use lib.IntN.{ℤ, pos, natAbs, _-ℤ_, _*ℤ_}
 use Rattle.integers.specs.Sums.{sum-cong, total-cong}
 use Rattle.fractions.specs.Greatest.{first-greatest-cong}
 use Rattle.judge.specs.System.{Row, Trial, System, row, residual, reach}
-use Rattle.judge.specs.Judgement.{within, factor, no-factor, first-unmet, deciding}
-use Rattle.judge.specs.Laws.{first-not-cong}
-use Rattle.judge.specs.Finding.{Finding, Agrees}
+use Rattle.judge.specs.Judgement.{within, factor, no-factor, first-unmet, deciding, judgement}
+use Rattle.judge.specs.Laws.{first-not-cong, deciding-below, at-residuals, at-reaches}
+use Rattle.judge.specs.Finding.{Finding, finding, Agrees}
+
+pub judgement-agrees : (s : System) (t : Trial) → 0 < s .n → s .n ≤ 8 → Agrees s t (finding (judgement s t))
+unfolding judgement
+judgement-agrees s t h k =
+    let d = deciding-below s t h in
+    record {
+      met = refl;
+      unmet = refl;
+      none = ap₂ no-factor (at-residuals s t k (deciding s t) d) (at-reaches s t k (deciding s t) d);
+      decides = refl;
+      R = at-residuals s t k;
+      T = at-reaches s t k;
+    }
 
 module _ (t : Trial) (Y : ℕ → ℤ) (same : (j : ℕ) → j < t .n → t .Y j ≡ Y j) where
   abbrev pub with-figures : Trial

@@ -1,13 +1,13 @@
--- How large a residual can be, by the sizes of the figures: |R| ≤ D b + n (a y). Assumes nothing.
+-- How large residuals and reaches can be, by the sizes of the figures: |R| ≤ D b + n (a y), T ≤ D f + n (e y). Assumes nothing.
 use Prim.Native.Nat.{ℕ, _+_, _*_, _≤_}
 use native.Mathlib.Nat.{mul-le-mul, mul-le-mul-left}
 use native.Mathlib.Omega.{arith}
 use lib.ListN.{getD}
 use lib.IntN.{ℤ, pos, natAbs, _*ℤ_}
 use Rattle.integers.specs.Size.{natAbs-*ℤ, natAbs-subℤ}
-use Rattle.integers.specs.Sums.{sum, sum-bound}
+use Rattle.integers.specs.Sums.{sum, sum-bound, total-bound}
 use Rattle.integers.specs.Tables.{all-filled}
-use Rattle.judge.specs.System.{System, Trial, row, residual}
+use Rattle.judge.specs.System.{System, Trial, row, residual, reach}
 use Rattle.judge.specs.Judgement.{standing}
 
 -- coefficients of at most a, right-hand sides of at most b, figures of at most y
@@ -33,3 +33,17 @@ module _ (s : System) (t : Trial) (a b y : ℕ)
   pub standing-size : (i : ℕ) → natAbs (getD (standing s t .residuals) i (pos 0)) ≤ t .D * b + t .n * (a * y)
   standing-size =
       all-filled (λ (z : ℤ). natAbs z ≤ t .D * b + t .n * (a * y)) (pos 0) (omega arith) 8 (s .n) (λ i. residual (row s i) t) (λ i l. residual-size i)
+
+-- tolerances of at most e, of right-hand sides of at most f, figures of at most y
+pub reach-size : (s : System) (t : Trial) (e f y : ℕ)
+    → ((j : ℕ) → getD (s .tolerances) j 0 ≤ e)
+    → ((j : ℕ) → getD (s .right-tolerances) j 0 ≤ f)
+    → ((j : ℕ) → natAbs (t .Y j) ≤ y)
+    → (i : ℕ) → reach (row s i) t ≤ t .D * f + t .n * (e * y)
+unfolding reach
+reach-size s t e f y tolerances right-tolerances figures i =
+    omega (
+      arith,
+      mul-le-mul-left (t .D) (right-tolerances i),
+      total-bound (t .n) (e * y) (λ j. row s i .E j * natAbs (t .Y j)) (λ j l. mul-le-mul (tolerances (i * s .n + j)) (figures j)),
+    )

@@ -1,5 +1,5 @@
 -- Every finding that agrees with the judgement is justified, for a trial brought and a trial worked out alike. Assumes nothing.
-use mathlib.Core.Path.{_≡_, refl, sym, ap, ap₂, _∙_}
+use mathlib.Core.Path.{_≡_, refl, sym, ap, _∙_}
 use mathlib.Core.Bool.{Bool, true, false, not, _&&_}
 use Prim.Native.Nat.{ℕ, zero, suc, _*_, _-_, _≤_, _<_}
 use native.Mathlib.Nat.{mul-le-mul-right}
@@ -12,7 +12,8 @@ use Rattle.fractions.specs.Greatest.{First, first-greatest-is}
 use Rattle.judge.specs.System.{System, Trial, row, residual, reach}
 use Rattle.judge.specs.Changes.{Possible}
 use Rattle.judge.specs.Judgement.{within, factor, no-factor, first-unmet, deciding, judgement}
-use Rattle.judge.specs.Laws.{Fails, first-not-zero, first-not-suc, at-residuals, at-reaches}
+use Rattle.judge.specs.Laws.{Fails, first-not-zero, first-not-suc}
+use Rattle.judge.specs.Agreement.{judgement-agrees}
 use Rattle.judge.specs.OettliPrager.{oettli-prager, within-tolerances, yielded-keep}
 use Rattle.judge.specs.Finding.{Finding, finding, factor-num, AllPossible, AllUnder, FirstImpossible, Least, Yields, Justified, Agrees}
 
@@ -163,18 +164,5 @@ module _ (s : System) (t : Trial) (h : 0 < s .n) where
         }
 
   -- the judgement itself
-  module _ (k : s .n ≤ 8) where
-    agrees : Agrees s t (finding (judgement s t))
-    unfolding judgement
-    agrees =
-        record {
-          met = refl;
-          unmet = refl;
-          none = ap₂ no-factor (at-residuals s t k (deciding s t) (greatest s t h .place)) (at-reaches s t k (deciding s t) (greatest s t h .place));
-          decides = refl;
-          R = at-residuals s t k;
-          T = at-reaches s t k;
-        }
-
-    pub judgement-justified : Justified s t (finding (judgement s t))
-    judgement-justified = justified (finding (judgement s t)) agrees
+  pub judgement-justified : s .n ≤ 8 → Justified s t (finding (judgement s t))
+  judgement-justified k = justified (finding (judgement s t)) (judgement-agrees s t h k)
