@@ -20,9 +20,9 @@ const LONGEST_INPUT: usize = 400;
 
 const LONGEST_BUFFER: usize = 400;
 
-const LONGEST_RECORD: usize = 180;
+const LONGEST_RECORD: usize = recordfile::LONGEST_RECORD;
 
-const TEXT_ROOM: usize = 800;
+const TEXT_ROOM: usize = report::TEXT_ROOM;
 
 const UNTOUCHED: u8 = 0xA5;
 
@@ -237,12 +237,17 @@ fn compare_all(fd: i32, texts: bool) -> Tally {
     }
 }
 
-// Prints `A of N results agree`, then the number of the first that does not, and the place where a malformed stream was left.
-fn print(t: Tally) {
+// Prints `A of N results agree`, or the same of printed verdicts, then the number of the first that does not, and the place where a malformed stream
+// was left.
+fn print(t: Tally, texts: bool) {
     io::print_decimal(STDOUT_FILENO, t.agree);
     io::write_all(STDOUT_FILENO, b" of ");
     io::print_decimal(STDOUT_FILENO, t.results);
-    io::write_all(STDOUT_FILENO, b" results agree");
+    if texts {
+        io::write_all(STDOUT_FILENO, b" printed verdicts agree");
+    } else {
+        io::write_all(STDOUT_FILENO, b" results agree");
+    }
     if 0 < t.first_difference {
         io::write_all(STDOUT_FILENO, b"; the first that differs is number ");
         io::print_decimal(STDOUT_FILENO, t.first_difference);
@@ -250,7 +255,6 @@ fn print(t: Tally) {
     if !t.complete {
         io::write_all(STDOUT_FILENO, b"; the file is malformed after them");
     }
-    io::write_all(STDOUT_FILENO, b"\n");
 }
 
 // Compares the results of a file and prints how many agree.
@@ -260,11 +264,13 @@ fn run(path: &[u8], texts: bool) {
         os::fail(path);
         return;
     }
-    print(compare_all(fd, texts));
+    print(compare_all(fd, texts), texts);
     libc::close(fd);
 }
 
 fn main() {
     run(b"vectors.bin", false);
+    io::write_all(STDOUT_FILENO, b", ");
     run(b"texts.bin", true);
+    io::write_all(STDOUT_FILENO, b"\n");
 }
