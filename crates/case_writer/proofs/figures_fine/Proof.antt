@@ -1,58 +1,93 @@
 -- `case_writer::figures_fine` meets its contract: each list's test is the definition's.
 -- Assumes nothing.
-use mathlib.Core.Path.{sym, _∙_}
+use mathlib.Core.Path.{_≡_, sym, _∙_}
+use mathlib.Core.Bool.{true}
+use denote.Ref.{now}
 use borrow.Author.Tests.{not-true, not-false}
-use Rattle.casefile.specs.Case.{figuresFine}
+use Rattle.figures.specs.Figures.{within, upTo, all}
+use Rattle.casefile.specs.Case.{coefficientLimit, toleranceLimit, rightSideLimit, rightToleranceLimit, figuresFine}
 use borrow.Author.Needs.{needs}
 use Rattle.case_writer.proofs.figures_fine.Statement.{statement}
 use Rattle.case_writer.proofs.figures_fine.Tie as tie
 
-all-i16-requires : tie.Need-all-i16-requires
-all-i16-requires c κs = search needs
+-- each test, and that those before it passed
+module _ (c : tie.After-all-i16) where
+  abbrev start : tie.Start
+  start = c .before .before .before
+
+  coefficients-are : c .all-i16 .result ≡ all (within coefficientLimit) (now (start .args .a))
+  coefficients-are = c .all-i16 .ensures
+
+module _ (c : tie.After-all-u16) where
+  abbrev first : tie.After-all-i16
+  first = c .before .before
+
+  coefficients-fine : all (within coefficientLimit) (now (start first .args .a)) ≡ true
+  coefficients-fine = sym (coefficients-are first) ∙ not-false _ (c .before .if1 .left)
+
+  tolerances-are : c .all-u16 .result ≡ all (upTo toleranceLimit) (now (start first .args .t))
+  tolerances-are = c .all-u16 .ensures
+
+module _ (c : tie.After-all-i32) where
+  abbrev second : tie.After-all-u16
+  second = c .before .before
+
+  tolerances-fine : all (upTo toleranceLimit) (now (start (first second) .args .t)) ≡ true
+  tolerances-fine = sym (tolerances-are second) ∙ not-false _ (c .before .if2 .left)
+
+  right-sides-are : c .all-i32 .result ≡ all (within rightSideLimit) (now (start (first second) .args .b))
+  right-sides-are = c .all-i32 .ensures
+
+module _ (c : tie.After-all-u32) where
+  abbrev third : tie.After-all-i32
+  third = c .before .before
+
+  right-sides-fine : all (within rightSideLimit) (now (start (first (second third)) .args .b)) ≡ true
+  right-sides-fine = sym (right-sides-are third) ∙ not-false _ (c .before .if3 .left)
+
+  right-tolerances-are : c .all-u32 .result ≡ all (upTo rightToleranceLimit) (now (start (first (second third)) .args .f))
+  right-tolerances-are = c .all-u32 .ensures
 
 returns : tie.Need-returns
 unfolding figuresFine
-returns c = simp (sym (c .before .all-i16 .ensures) ∙ not-true _ (c .if1 .taken))
-
-all-u16-requires : tie.Need-all-u16-requires
-all-u16-requires c κs = search needs
+returns c = simp (sym (coefficients-are (c .before)) ∙ not-true _ (c .if1 .taken))
 
 returns-2 : tie.Need-returns-2
 unfolding figuresFine
-returns-2 c = simp (sym (c .before .before .before .all-i16 .ensures) ∙ not-false _ (c .before .before .if1 .left), sym (c .before .all-u16 .ensures) ∙ not-true _ (c .if2 .taken))
-
-all-i32-requires : tie.Need-all-i32-requires
-all-i32-requires c κs = search needs
+returns-2 c = let w = c .before in simp (coefficients-fine w, sym (tolerances-are w) ∙ not-true _ (c .if2 .taken))
 
 returns-3 : tie.Need-returns-3
 unfolding figuresFine
-returns-3 c = simp (sym (c .before .before .before .before .before .all-i16 .ensures) ∙ not-false _ (c .before .before .before .before .if1 .left), sym (c .before .before .before .all-u16 .ensures) ∙ not-false _ (c .before .before .if2 .left), sym (c .before .all-i32 .ensures) ∙ not-true _ (c .if3 .taken))
-
-all-u32-requires : tie.Need-all-u32-requires
-all-u32-requires c κs = search needs
+returns-3 c =
+    let w = c .before in
+    simp (coefficients-fine (second w), tolerances-fine w, sym (right-sides-are w) ∙ not-true _ (c .if3 .taken))
 
 returns-4 : tie.Need-returns-4
 unfolding figuresFine
-returns-4 c = simp (sym (c .before .before .before .before .before .before .before .all-i16 .ensures) ∙ not-false _ (c .before .before .before .before .before .before .if1 .left), sym (c .before .before .before .before .before .all-u16 .ensures) ∙ not-false _ (c .before .before .before .before .if2 .left), sym (c .before .before .before .all-i32 .ensures) ∙ not-false _ (c .before .before .if3 .left), sym (c .before .all-u32 .ensures) ∙ not-true _ (c .if4 .taken))
-
-all-i32-requires-2 : tie.Need-all-i32-requires-2
-all-i32-requires-2 c κs = search needs
+returns-4 c =
+    let w = c .before in
+    let v = third w in
+    simp (coefficients-fine (second v), tolerances-fine v, right-sides-fine w, sym (right-tolerances-are w) ∙ not-true _ (c .if4 .taken))
 
 returns-5 : tie.Need-returns-5
 unfolding figuresFine
-returns-5 c = simp (sym (c .before .before .before .before .before .before .before .before .all-i16 .ensures) ∙ not-false _ (c .before .before .before .before .before .before .before .if1 .left), sym (c .before .before .before .before .before .before .all-u16 .ensures) ∙ not-false _ (c .before .before .before .before .before .if2 .left), sym (c .before .before .before .before .all-i32 .ensures) ∙ not-false _ (c .before .before .before .if3 .left), sym (c .before .before .all-u32 .ensures) ∙ not-false _ (c .before .if4 .left)) (c .all-i322 .ensures)
+returns-5 c =
+    let w = c .before .before in
+    let v = third w in
+    simp (coefficients-fine (second v), tolerances-fine v, right-sides-fine w, sym (right-tolerances-are w) ∙ not-false _ (c .before .if4 .left))
+    (c .all-i322 .ensures)
 
 pub figures-fine-spec : {M : Type 1} → statement M
 figures-fine-spec =
     tie.close
     (tie.spec
-    all-i16-requires
+    (λ c κs. search needs)
     returns
-    all-u16-requires
+    (λ c κs. search needs)
     returns-2
-    all-i32-requires
+    (λ c κs. search needs)
     returns-3
-    all-u32-requires
+    (λ c κs. search needs)
     returns-4
-    all-i32-requires-2
+    (λ c κs. search needs)
     returns-5)
