@@ -8,11 +8,11 @@ NAME.case holds the bytes of the case, NAME.hex the same bytes in hexadecimal, o
 a line with a comment after the number sign, and NAME.txt what `verdict` prints for it.
 """
 
-import os
 import sys
 
 import families
 import reference
+import stored
 from families import encode, one, square
 
 
@@ -132,38 +132,5 @@ def make_files():
     return files
 
 
-def write_files(directory):
-    os.makedirs(directory, exist_ok=True)
-    for name, content in make_files().items():
-        with open(os.path.join(directory, name), "wb") as file:
-            file.write(content)
-    return 0
-
-
-def check_files(directory):
-    expected = make_files()
-    differing = sorted(set(os.listdir(directory)) - set(expected))
-    for name, content in expected.items():
-        path = os.path.join(directory, name)
-        if not os.path.exists(path):
-            differing.append(name)
-            continue
-        with open(path, "rb") as file:
-            differing += [name] if file.read() != content else []
-    for name in differing:
-        sys.stderr.write(f"samples: {name} is missing, not due or differs\n")
-    print("samples: differences found" if differing else "samples: all files agree")
-    return 1 if differing else 0
-
-
-def main(arguments):
-    if len(arguments) == 2 and arguments[0] == "--check":
-        return check_files(arguments[1])
-    if len(arguments) == 1 and not arguments[0].startswith("-"):
-        return write_files(arguments[0])
-    sys.stderr.write("usage: python3 tools/samples.py DIR | --check DIR\n")
-    return 2
-
-
 if __name__ == "__main__":
-    sys.exit(main(sys.argv[1:]))
+    sys.exit(stored.main("samples", make_files, sys.argv[1:]))

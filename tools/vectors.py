@@ -36,12 +36,12 @@ writes.bin, one item for each call of the case writer:
   The buffer holds A5 in every byte before the call, as above.
 """
 
-import os
 import sys
 from collections import Counter
 
 import families
 import reference
+import stored
 import write_calls
 
 END_MARK = b"\xff\xff"
@@ -103,11 +103,11 @@ def make_writes():
     parts = []
     for call in write_calls.all_calls():
         n, e, rounds, lists, length = call
-        stored = [bytes([n, e, rounds])]
+        given = [bytes([n, e, rounds])]
         for figures, width in zip(lists, WIDTHS, strict=True):
-            stored.append(bytes([len(figures)]) + families.numbers(figures, width))
-        assert stored[0][:2] != END_MARK and max(len(figures) for figures in lists) <= 80
-        parts.append(b"".join(stored) + short(length) + outcome_bytes(*written(call)))
+            given.append(bytes([len(figures)]) + families.numbers(figures, width))
+        assert given[0][:2] != END_MARK and max(len(figures) for figures in lists) <= 80
+        parts.append(b"".join(given) + short(length) + outcome_bytes(*written(call)))
     return b"".join(parts) + END_MARK + b"\xff"
 
 
@@ -118,43 +118,6 @@ def make_files():
         "texts.bin": make_texts(inputs),
         "writes.bin": make_writes(),
     }
-
-
-# ---------------------------------------------------------------- writing and comparing
-
-
-def write_files(directory):
-    os.makedirs(directory, exist_ok=True)
-    for name, content in make_files().items():
-        with open(os.path.join(directory, name), "wb") as file:
-            file.write(content)
-        print(f"{name}: {len(content)} bytes")
-    return 0
-
-
-def difference(name, expected, stored):
-    """What differs, in one line, or nothing."""
-    if expected == stored:
-        return ""
-    pairs = enumerate(zip(expected, stored))
-    place = next((i for i, (a, b) in pairs if a != b), min(len(expected), len(stored)))
-    return f"{name}: differs at byte {place}; {len(expected)} bytes made, {len(stored)} stored"
-
-
-def check_files(directory):
-    messages = []
-    for name, expected in make_files().items():
-        path = os.path.join(directory, name)
-        if not os.path.exists(path):
-            messages.append(f"{name}: missing")
-            continue
-        with open(path, "rb") as file:
-            messages.append(difference(name, expected, file.read()))
-    messages = [message for message in messages if message]
-    for message in messages:
-        sys.stderr.write(f"vectors: {message}\n")
-    print("vectors: differences found" if messages else "vectors: all files agree")
-    return 1 if messages else 0
 
 
 # ---------------------------------------------------------------- how many of each kind
@@ -247,12 +210,7 @@ def print_stats():
 def main(arguments):
     if arguments == ["--stats"]:
         return print_stats()
-    if len(arguments) == 2 and arguments[0] == "--check":
-        return check_files(arguments[1])
-    if len(arguments) == 1 and not arguments[0].startswith("-"):
-        return write_files(arguments[0])
-    sys.stderr.write("usage: python3 tools/vectors.py DIR | --check DIR | --stats\n")
-    return 2
+    return stored.main("vectors", make_files, arguments, " | --stats")
 
 
 if __name__ == "__main__":
