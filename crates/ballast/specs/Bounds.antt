@@ -1,6 +1,5 @@
 -- What the limits of a case give the call: nothing wraps, and every figure fits its place in the record. Assumes nothing.
 use mathlib.Core.Path.{_≡_}
-use mathlib.Core.Bool.{true}
 use mathlib.Core.List.{List}
 use Prim.Native.Nat.{ℕ, zero, suc, _*_, _^_, _≤_, _<_}
 use native.Mathlib.Nat.{mul-le-mul}
@@ -8,10 +7,8 @@ use native.Mathlib.Omega.{arith}
 use lib.Dec.{lit≤}
 use lib.ListN.{getD}
 use lib.IntN.{ℤ, pos, natAbs}
-use borrow.Author.Tests.{le-leb, leb-true}
-use Rattle.figures.specs.Figures.{upTo, within, all}
-use Rattle.figures.specs.FigureLaws.{all-at}
-use Rattle.casefile.specs.Case.{Case}
+use Rattle.figures.specs.FigureLaws.{within-at, upTo-at}
+use Rattle.casefile.specs.Case.{Case, mostExponent, coefficientLimit, toleranceLimit, rightSideLimit, rightToleranceLimit, trialLimit}
 use Rattle.casefile.specs.CaseLaws.{Good}
 use Rattle.casefile.specs.Decode.{padded, stored}
 use Rattle.casefile.specs.StoredLaws.{getD-padded}
@@ -21,14 +18,7 @@ use Rattle.solver.specs.Limits.{Limits}
 use Rattle.solver.specs.Sizes.{limits-enough}
 use Rattle.ballast.specs.Call.{scaleOf, systemOf}
 
--- a figure of a list that passed the test
-signed-every : (limit : ℕ) (l : List ℤ) → all (within limit) l ≡ true → (i : ℕ) → natAbs (getD l i (pos 0)) ≤ limit
-signed-every limit l h i = leb-true _ _ (all-at (within limit) (pos 0) (le-leb 0 limit (omega arith)) l h i)
-
-unsigned-every : (limit : ℕ) (l : List ℕ) → all (upTo limit) l ≡ true → (i : ℕ) → getD l i 0 ≤ limit
-unsigned-every limit l h i = leb-true _ _ (all-at (upTo limit) 0 (le-leb 0 limit (omega arith)) l h i)
-
-scale-le : (e : ℕ) → e ≤ 3 → scaleOf e ≤ 1000
+scale-le : (e : ℕ) → e ≤ mostExponent → scaleOf e ≤ 1000
 scale-le zero h = lit≤ tt
 scale-le (suc zero) h = lit≤ tt
 scale-le (suc (suc zero)) h = lit≤ tt
@@ -42,26 +32,26 @@ module _ (c : Case) (g : Good c) where
   unfolding stored
   limits =
       limits-enough (systemOf (stored c)) (scaleOf (c .exponent)) (g .small) (scale-le (c .exponent) (g .exponent-small))
-      (λ i. rw (getD-padded (pos 0) 64 (c .coefficients) i) (signed-every 32767 (c .coefficients) (g .lists .fa) i))
-      (λ i. rw (getD-padded (pos 0) 8 (c .right-sides) i) (signed-every 1000000000 (c .right-sides) (g .lists .fb) i))
+      (λ i. rw (getD-padded (pos 0) 64 (c .coefficients) i) (within-at coefficientLimit (c .coefficients) (g .lists .fa) i))
+      (λ i. rw (getD-padded (pos 0) 8 (c .right-sides) i) (within-at rightSideLimit (c .right-sides) (g .lists .fb) i))
 
-  pub trial-figures : (i : ℕ) → natAbs (getD (stored c .trial) i (pos 0)) ≤ 10000000
+  pub trial-figures : (i : ℕ) → natAbs (getD (stored c .trial) i (pos 0)) ≤ trialLimit
   unfolding stored
-  trial-figures i = rw (getD-padded (pos 0) 8 (c .trial) i) (signed-every 10000000 (c .trial) (g .trial-fine) i)
+  trial-figures i = rw (getD-padded (pos 0) 8 (c .trial) i) (within-at trialLimit (c .trial) (g .trial-fine) i)
 
   -- a reach within the limits of the tolerances and of the answer
-  pub reach-le : (Y : List ℤ) → ((i : ℕ) → natAbs (getD Y i (pos 0)) ≤ 10000000) → (i : ℕ)
+  pub reach-le : (Y : List ℤ) → ((i : ℕ) → natAbs (getD Y i (pos 0)) ≤ trialLimit) → (i : ℕ)
       → reach (row (systemOf (stored c)) i) (trial (c .n) (scaleOf (c .exponent)) Y) < 256 ^ 8
   unfolding stored
   reach-le Y y i =
       let s = systemOf (stored c) in
-      let f : (k : ℕ) → getD (padded 8 0 (c .right-tolerances)) k 0 ≤ 1000000000 =
-      λ k. rw (getD-padded 0 8 (c .right-tolerances) k) (unsigned-every 1000000000 (c .right-tolerances) (g .lists .ff) k) in
-      let e : (k : ℕ) → getD (padded 64 0 (c .tolerances)) k 0 ≤ 32767 =
-      λ k. rw (getD-padded 0 64 (c .tolerances) k) (unsigned-every 32767 (c .tolerances) (g .lists .ft) k) in
-      let D = mul-le-mul {m₁ = 1000000000} {m₂ = 1000000000} (scale-le (c .exponent) (g .exponent-small)) (lit≤ tt) in
-      let n = mul-le-mul {m₁ = 32767 * 10000000} {m₂ = 32767 * 10000000} (g .small) (lit≤ tt) in
-      omega (arith, reach-size s (trial (c .n) (scaleOf (c .exponent)) Y) 32767 1000000000 10000000 e f y i)
+      let f : (k : ℕ) → getD (padded 8 0 (c .right-tolerances)) k 0 ≤ rightToleranceLimit =
+      λ k. rw (getD-padded 0 8 (c .right-tolerances) k) (upTo-at rightToleranceLimit (c .right-tolerances) (g .lists .ff) k) in
+      let e : (k : ℕ) → getD (padded 64 0 (c .tolerances)) k 0 ≤ toleranceLimit =
+      λ k. rw (getD-padded 0 64 (c .tolerances) k) (upTo-at toleranceLimit (c .tolerances) (g .lists .ft) k) in
+      let D = mul-le-mul {m₁ = rightToleranceLimit} {m₂ = rightToleranceLimit} (scale-le (c .exponent) (g .exponent-small)) (lit≤ tt) in
+      let n = mul-le-mul {m₁ = toleranceLimit * trialLimit} {m₂ = toleranceLimit * trialLimit} (g .small) (lit≤ tt) in
+      omega (arith, reach-size s (trial (c .n) (scaleOf (c .exponent)) Y) toleranceLimit rightToleranceLimit trialLimit e f y i)
 
 -- the zeros behind a stored case's figures change nothing: its rows are those of the case's own lists
 pub stored-row : (c : Case) (i : ℕ)

@@ -1,21 +1,19 @@
 -- The call that takes a case and a result buffer and leaves the record: what it answers and what the buffer then holds, in document 01's order.
 -- Definitions only. Assumes nothing.
-use mathlib.Core.Bool.{false, cond}
+use mathlib.Core.Bool.{false}
 use mathlib.Core.List.{List}
 use Prim.Native.Nat.{ℕ, zero, suc, _^_, _≤_}
-use lib.Dec.{leb}
 use lib.ListN.{length}
 use lib.IntN.{pos}
 use Rattle.outcome.specs.declared.Refusal.{Refusal}
-use Rattle.outcome.specs.declared.Refusal.the-variants.{BufferTooShort, ZeroPivot, OutsideRange}
-use Rattle.outcome.specs.declared.Outcome.the-variants.{Count, Refused}
+use Rattle.outcome.specs.declared.Refusal.the-variants.{ZeroPivot, OutsideRange}
 use Rattle.outcome.specs.declared.Status.{Status as FileStatus}
 use Rattle.outcome.specs.declared.Status.the-variants.{Accepted, Refused as RefusedBy}
 use Rattle.integers.specs.Tables.{table}
-use Rattle.buffer.specs.Buffer.{onto}
 use Rattle.casefile.specs.declared.Case.{Case}
+use Rattle.casefile.specs.Case.{mostTanks, mostExponent}
 use Rattle.casefile.specs.Decode.{Decoded, accepted, refused, decode, stored}
-use Rattle.casefile.specs.Write.{Written}
+use Rattle.casefile.specs.Write.{Written, filed, inRoom}
 use Rattle.judge.specs.declared.Judgement.{Judgement}
 use Rattle.judge.specs.System.{System, system, trial}
 use Rattle.judge.specs.Judgement.{judgement}
@@ -24,7 +22,7 @@ use Rattle.solver.specs.declared.Status.{Status}
 use Rattle.solver.specs.declared.Status.the-variants.{Answered, ZeroPivot as NoPivot, OutsideRange as Outside}
 use Rattle.solver.specs.Solution.{solution}
 use Rattle.solver.specs.Limits.{Limits}
-use Rattle.recordfile.specs.Layout.{recordOf, recordLength}
+use Rattle.recordfile.specs.Layout.{recordOf, longestRecord}
 use Rattle.ballast.specs.declared.Answer.{Answer}
 
 -- "D is 10 to the power e"
@@ -94,30 +92,22 @@ answer-of (refused r) = no-answer r
 
 -- ---- the call
 
--- "Any refusal .. returns its number and changes no byte"
-abbrev pub refusing : Refusal → List ℕ → Written
-refusing r out = record { outcome = Refused r; buffer = out }
+-- the bytes of an answer's record
+abbrev pub record-of : Answer → List ℕ
+record-of a = recordOf (a .n) (a .rounds) (a .trial) (a .judgement)
 
--- "The result buffer beyond the record stays as it was. The count returned is the record's length."
-abbrev pub finished-by : FileStatus → Answer → List ℕ → Written
-finished-by Accepted a out =
-    record { outcome = Count (recordLength (a .n)); buffer = onto (recordOf (a .n) (a .rounds) (a .trial) (a .judgement)) out }
-finished-by (RefusedBy r) a out = refusing r out
-
+-- "The result buffer is shorter than 180 bytes", checked once and first; "The result buffer beyond the record stays as it was. The count
+-- returned is the record's length."
 unfoldable pub finished : Answer → List ℕ → Written
-finished a out = finished-by (a .status) a out
-
--- "The result buffer is shorter than 180 bytes", checked once and first
-abbrev pub shortest : ℕ
-shortest = 180
+finished a out = filed (inRoom longestRecord (length out) (a .status)) (record-of a) out
 
 unfoldable pub call : List ℕ → List ℕ → Written
-call input out = cond (leb shortest (length out)) (finished (answer-of (decode input)) out) (refusing BufferTooShort out)
+call input out = finished (answer-of (decode input)) out
 
 -- ---- what the parts of the call ask
 
--- a case to be worked out: at most 8 rows, an exponent of at most 3, and figures with which nothing wraps
+-- a case to be worked out: n and the exponent within their limits, and figures with which nothing wraps
 pub record Workable (c : Case) : Type 0 where
-  pub rows : c .n ≤ 8
-  pub exponent-small : c .exponent ≤ 3
+  pub rows : c .n ≤ mostTanks
+  pub exponent-small : c .exponent ≤ mostExponent
   pub limits : Limits (systemOf c) (scaleOf (c .exponent))

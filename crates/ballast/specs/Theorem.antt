@@ -1,34 +1,30 @@
 -- The third demand holds of every record that the call leaves: what is read off the bytes is the judgement of the recorded answer, and that is
 -- justified by the theorem of Oettli and Prager. Assumes nothing.
 use mathlib.Core.Path.{_≡_, refl, sym, ap, subst, _∙_}
-use mathlib.Core.Bool.{Bool, true, false, cond}
 use mathlib.Core.List.{List}
 use Prim.Native.Nat.{ℕ, zero, suc, _^_, _≤_, _<_}
 use native.Mathlib.Omega.{arith}
-use lib.Dec.{leb}
-use lib.ListN.{length, getD, take}
+use lib.ListN.{length, getD}
 use lib.IntN.{ℤ, pos}
 use mir.Syntax.{w32, w64}
 use mir.Val.{SFits}
 use Rattle.integers.specs.Size.{sfits-size}
-use Rattle.outcome.specs.declared.Refusal.the-variants.{BufferTooShort}
 use Rattle.outcome.specs.declared.Outcome.{Outcome}
-use Rattle.outcome.specs.declared.Status.{Status as FileStatus}
-use Rattle.outcome.specs.declared.Status.the-variants.{Accepted, Refused as RefusedBy}
+use Rattle.outcome.specs.declared.Status.the-variants.{Accepted}
 use Rattle.ballast.specs.declared.Answer.{Answer as FileAnswer}
 use Rattle.outcome.specs.declared.Outcome.the-variants.{Count}
-use Rattle.buffer.specs.Laws.{take-onto}
-use Rattle.casefile.specs.Case.{Case}
+use Rattle.casefile.specs.Case.{Case, mostTanks, mostRounds}
 use Rattle.casefile.specs.CaseLaws.{Good, good, decode-fine}
-use Rattle.casefile.specs.Decode.{Decoded, accepted, refused, decode, stored}
-use Rattle.casefile.specs.Write.{leaves}
+use Rattle.casefile.specs.Decode.{decode, stored}
+use Rattle.casefile.specs.Write.{inRoom, leaves}
+use Rattle.casefile.specs.WriteLaws.{Filed, filed-count, in-room}
 use Rattle.judge.specs.System.{System, Trial, row, trial, residual, reach}
 use Rattle.judge.specs.Judgement.{judgement}
 use Rattle.judge.specs.Finding.{Justified, Agrees}
 use Rattle.judge.specs.Laws.{unmet-le, deciding-below}
 use Rattle.judge.specs.Agreement.{judgement-agrees, agrees-with}
 use Rattle.judge.specs.Theorem.{justified}
-use Rattle.recordfile.specs.Layout.{recordOf, recordLength, Holds}
+use Rattle.recordfile.specs.Layout.{recordOf, longestRecord, Holds}
 use Rattle.recordfile.specs.Laws.{length-record, longest-record}
 use Rattle.recordfile.specs.ReadOff.{recordedAnswer, recordedFinding}
 use Rattle.recordfile.specs.ReadOffLaws.{recorded-met, recorded-unmet, recorded-rounds, recorded-answer, recorded-residual, recorded-reach, recorded-none, recorded-decides}
@@ -37,9 +33,9 @@ use Rattle.solver.specs.declared.Status.the-variants.{Answered}
 use Rattle.solver.specs.Claims.{Answer}
 use Rattle.solver.specs.Answers.{answer, rounds}
 use Rattle.solver.specs.Sizes.{residual-le}
-use Rattle.ballast.specs.Call.{scaleOf, systemOf, worked-in, worked, answer-of, finished, finished-by, refusing, shortest, call, Workable}
-use Rattle.ballast.specs.CallLaws.{answering}
-use Rattle.ballast.specs.Demand.{Finished, Demand, Demanded, Promise}
+use Rattle.ballast.specs.Call.{scaleOf, systemOf, worked-in, worked, answer-of, record-of, finished, call, Workable}
+use Rattle.ballast.specs.CallLaws.{Answering, answering}
+use Rattle.ballast.specs.Demand.{Finished, Demand, Promise}
 use Rattle.ballast.specs.Bounds.{limits, trial-figures, reach-le}
 
 -- ---- the answer, brought or worked out: within its limits, and beside its own judgement
@@ -56,7 +52,7 @@ module _ (c : Case) (g : Good c) where
 
 -- ---- what is read off a record of n rows
 
-module _ (s : System) (D rounds : ℕ) (Y : List ℤ) (h : 0 < s .n) (k : s .n ≤ 8)
+module _ (s : System) (D rounds : ℕ) (Y : List ℤ) (h : 0 < s .n) (k : s .n ≤ mostTanks)
     (fits-answer : (i : ℕ) → SFits w32 (getD Y i (pos 0)))
     (fits-residual : (i : ℕ) → SFits w64 (residual (row s i) (trial (s .n) D Y)))
     (fits-reach : (i : ℕ) → reach (row s i) (trial (s .n) D Y) < 256 ^ 8) where
@@ -117,50 +113,36 @@ module _ (c : Case) (g : Good c) where
 -- ---- the call
 
 -- a count comes only from an answer, and the bytes at the buffer's front are its record
-counted : (t : FileStatus) (x : FileAnswer) (m : ℕ) (out : List ℕ) → finished-by t x out .outcome ≡ Count m
-    → (t ≡ Accepted) × (m ≡ recordLength (x .n)) × (take m (finished-by t x out .buffer) ≡ recordOf (x .n) (x .rounds) (x .trial) (x .judgement))
-counted Accepted x m out e =
-    let q : recordLength (x .n) ≡ m = cc in (
-      refl,
-      sym q,
-      rw (← q, ← length-record (x .n) (x .rounds) (x .trial) (x .judgement)) (take-onto (recordOf (x .n) (x .rounds) (x .trial) (x .judgement)) out),
-    )
-counted (RefusedBy r) x m out e = let z : _≡_ {A = ℕ} 0 1 = cc in absurd (omega arith)
+module _ (input out : List ℕ) (m : ℕ) (e : call input out .outcome ≡ Count m) where
+  abbrev x : FileAnswer
+  x = answer-of (decode input)
 
-module _ (input out : List ℕ) where
-  answer-demand : (d : Decoded) → decode input ≡ d → (m : ℕ) → finished (answer-of d) out .outcome ≡ Count m → Demand input (finished (answer-of d) out .buffer) m
-  unfolding finished answer-of stored
-  answer-demand (accepted c) q m e =
-      let g = good c (decode-fine input c q) in
-      let k = counted (answer-of (accepted c) .status) (answer-of (accepted c)) m out e in
-      record { case = c; read = q; finished = rw (k .2) (finished-case c g) }
-  answer-demand (refused r) q m e = let z : _≡_ {A = ℕ} 0 1 = cc in absurd (omega arith)
+  counted : Filed (inRoom longestRecord (length out) (x .status)) (record-of x) out m
+  unfolding call finished
+  counted = filed-count (inRoom longestRecord (length out) (x .status)) (record-of x) out m e
 
-  roomy-demand : (b : Bool) (m : ℕ) → cond b (finished (answer-of (decode input)) out) (refusing BufferTooShort out) .outcome ≡ Count m
-      → Demand input (cond b (finished (answer-of (decode input)) out) (refusing BufferTooShort out) .buffer) m
-  roomy-demand true m e = answer-demand (decode input) refl m e
-  roomy-demand false m e = let z : _≡_ {A = ℕ} 0 1 = cc in absurd (omega arith)
+  from : Answering (decode input)
+  from = answering (decode input) (in-room longestRecord (x .status) (length out) (counted .accepted) .1)
 
-  answer-count : (d : Decoded) → decode input ≡ d → (m : ℕ) → finished (answer-of d) out .outcome ≡ Count m → m ≤ shortest
-  unfolding finished answer-of stored
-  answer-count (accepted c) q m e =
-      let k = counted (answer-of (accepted c) .status) (answer-of (accepted c)) m out e in
-      omega (arith, k .1, longest-record (c .n) (good c (decode-fine input c q) .small))
-  answer-count (refused r) q m e = let z : _≡_ {A = ℕ} 0 1 = cc in absurd (omega arith)
+  fine : Good (from .figures)
+  fine = good (from .figures) (decode-fine input (from .figures) (from .decoded))
 
   -- no count is above the longest record
-  pub count-le : (m : ℕ) → call input out .outcome ≡ Count m → m ≤ shortest
-  unfolding call
-  count-le m e = go (leb shortest (length out)) e
-    where
-      go : (b : Bool) → cond b (finished (answer-of (decode input)) out) (refusing BufferTooShort out) .outcome ≡ Count m → m ≤ shortest
-      go true e = answer-count (decode input) refl m e
-      go false e = let z : _≡_ {A = ℕ} 0 1 = cc in absurd (omega arith)
+  pub count-le : m ≤ longestRecord
+  unfolding answer-of stored
+  count-le =
+      let l : x .n ≤ mostTanks = rw (from .decoded) (fine .small) in
+      omega (arith, counted .count, length-record (x .n) (x .rounds) (x .trial) (x .judgement), longest-record (x .n) l)
 
   -- every count that the call returns is of a finished case
-  pub demanded : Demanded input (call input out .outcome) (call input out .buffer)
-  unfolding call
-  demanded m e = roomy-demand (leb shortest (length out)) m e
+  pub demanded : Demand input (call input out .buffer) m
+  unfolding call finished answer-of stored
+  demanded =
+      record {
+        case = from .figures;
+        read = from .decoded;
+        finished = subst (λ b. Finished (from .figures) b) (sym (counted .front)) (rw (from .decoded) (finished-case (from .figures) fine));
+      }
 
 -- so a call that answers and leaves what the definition says keeps its promise
 pub promised : (input entry : List ℕ) (o : Outcome) (exit : List ℕ) → leaves o exit ≡ call input entry → Promise input entry o exit
@@ -174,12 +156,12 @@ promised input entry o exit e =
 -- ---- what a record asks of an answer: rows and rounds of a byte each
 
 module _ (c : Case) (g : Good c) where
-  rounds-le : (k : ℕ) → k ≤ 8 → worked-in k (stored c) .status ≡ Answered → worked-in k (stored c) .rounds ≤ 8
+  rounds-le : (k : ℕ) → k ≤ mostRounds → worked-in k (stored c) .status ≡ Answered → worked-in k (stored c) .rounds ≤ mostRounds
   unfolding stored
   rounds-le zero h e = omega arith
   rounds-le (suc k) h e = omega (arith, rounds (systemOf (stored c)) (scaleOf (c .exponent)) (suc k) (omega arith) e .few)
 
-  pub recordable : (room : ℕ) → shortest ≤ room → worked (stored c) .status ≡ Answered
+  pub recordable : (room : ℕ) → longestRecord ≤ room → worked (stored c) .status ≡ Answered
       → Holds (c .n) (worked (stored c) .rounds) (worked (stored c) .judgement) room
   unfolding worked stored
   recordable room h e =
@@ -205,7 +187,7 @@ module _ (c : Case) (g : Good c) where
   workable = record { rows = g .small; exponent-small = g .exponent-small; limits = limits c g }
 
 -- an answer that was accepted fits a record
-pub answer-recordable : (input : List ℕ) (x : FileAnswer) (room : ℕ) → x ≡ answer-of (decode input) → x .status ≡ Accepted → shortest ≤ room
+pub answer-recordable : (input : List ℕ) (x : FileAnswer) (room : ℕ) → x ≡ answer-of (decode input) → x .status ≡ Accepted → longestRecord ≤ room
     → Holds (x .n) (x .rounds) (x .judgement) room
 unfolding answer-of stored
 answer-recordable input x room q t h =

@@ -1,8 +1,7 @@
 // The call that takes a case and a result buffer and leaves the record.
 ghost use mathlib.Core.Path.{_≡_};
-ghost use Prim.Native.Nat.{_≤_};
 ghost use Rattle.casefile.specs.Decode.{decode};
-ghost use Rattle.ballast.specs.Call.{scaleOf, status-of, answer-with, no-answer, answer-of};
+ghost use Rattle.ballast.specs.Call.{status-of, answer-with, no-answer, answer-of};
 ghost use Rattle.ballast.specs.Demand.{Promise};
 use casefile::Case;
 use judge::Judgement;
@@ -19,23 +18,6 @@ pub struct Answer {
     pub rounds: usize,
     pub trial: [i32; 8],
     pub judgement: Judgement,
-}
-
-// D, 10 to the power of the exponent.
-fn scale(exponent: usize) -> u16
-    requires { ⌜ exponent ≤ 3 ⌝ }
-    ensures { λ r. ⌜ r ≡ scaleOf exponent ⌝ }
-{
-    if exponent == 0 {
-        return 1;
-    }
-    if exponent == 1 {
-        return 10;
-    }
-    if exponent == 2 {
-        return 100;
-    }
-    1000
 }
 
 fn refused(refusal: Refusal) -> Answer
@@ -101,7 +83,7 @@ pub fn answer_case(input: &[u8]) -> Answer
     }
     let n = reading.case.n;
     let exponent = reading.case.exponent;
-    let d = scale(exponent);
+    let d = integers::power_of_ten(exponent);
     if reading.case.rounds == 0 {
         let trial = reading.case.trial;
         let judgement = judge::judge(

@@ -1,20 +1,17 @@
 -- What the C functions return and leave, over the definitions of the calls behind them. Definitions only. Assumes nothing.
 use mathlib.Core.Path.{_≡_}
-use mathlib.Core.Bool.{cond}
 use mathlib.Core.List.{List}
 use Prim.Native.Nat.{ℕ}
-use lib.Dec.{leb}
 use lib.ListN.{length}
 use lib.IntN.{ℤ, pos}
-use Rattle.outcome.specs.declared.Refusal.the-variants.{BufferTooShort}
 use Rattle.outcome.specs.declared.Outcome.{Outcome}
 use Rattle.outcome.specs.declared.Outcome.the-variants.{Count, Refused}
-use Rattle.buffer.specs.Buffer.{onto}
+use Rattle.outcome.specs.declared.Status.the-variants.{Accepted}
 use Rattle.casefile.specs.Decode.{Decoded, accepted, refused, decode}
-use Rattle.casefile.specs.Write.{Written}
+use Rattle.casefile.specs.Write.{Written, filed, inRoom}
 use Rattle.report.specs.Text.{text-room}
 use Rattle.verdict_text.specs.Verdict.{verdict-of}
-use Rattle.ballast.specs.Call.{answer-of, call, refusing}
+use Rattle.ballast.specs.Call.{answer-of, call}
 use Rattle.ballast.specs.Demand.{Demand}
 use Rattle.ballast_c.specs.Result.{Returned}
 
@@ -29,9 +26,5 @@ pub record Judged (input entry : List ℕ) (result : ℤ) (exit : List ℕ) : Ty
   pub demand : (m : ℕ) → result ≡ pos m → Demand input exit m
 
 -- the printed verdict over the buffer's front
-abbrev pub text-over : List ℕ → List ℕ → Written
-text-over t out = record { outcome = Count (length t); buffer = onto t out }
-
 unfoldable pub text-call : List ℕ → List ℕ → Written
-text-call input out =
-    cond (leb text-room (length out)) (text-over (verdict-of text-room (answer-of (decode input))) out) (refusing BufferTooShort out)
+text-call input out = filed (inRoom text-room (length out) Accepted) (verdict-of text-room (answer-of (decode input))) out

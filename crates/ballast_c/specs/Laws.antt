@@ -1,38 +1,39 @@
 -- The C functions' definitions as the code meets them: every count is small, and each call behind them gives what they promise. Assumes nothing.
 use mathlib.Core.Path.{_≡_, refl, sym, ap, _∙_}
-use mathlib.Core.List.{List, _++_, append-assoc}
-use Prim.Native.Nat.{ℕ, _+_, _-_, _<_, _≤_}
+use mathlib.Core.List.{List, _++_}
+use Prim.Native.Nat.{ℕ, _<_, _≤_}
 use native.Mathlib.Omega.{arith}
-use borrow.Author.Tests.{le-leb, lt-leb}
-use lib.ListN.{length, take, drop, length-append, length-drop, take-append-drop}
-use lib.Seq.{drop-append-le, length-take-le}
-use lib.IntN.{ℤ, pos}
+use lib.ListN.{length, take, drop}
+use lib.Seq.{length-take-le}
+use lib.IntN.{ℤ}
 use Rattle.outcome.specs.declared.Refusal.{Refusal}
 use Rattle.outcome.specs.declared.Refusal.the-variants.{BufferTooShort}
 use Rattle.outcome.specs.declared.Outcome.{Outcome}
 use Rattle.outcome.specs.declared.Outcome.the-variants.{Count, Refused}
-use Rattle.buffer.specs.Buffer.{onto}
+use Rattle.buffer.specs.Laws.{holds, within-front}
+use Rattle.outcome.specs.declared.Status.the-variants.{Accepted}
+use Rattle.outcome.specs.Laws.{no-count}
 use Rattle.casefile.specs.declared.Case.{Case}
 use Rattle.casefile.specs.Case.{Case as Figures}
 use Rattle.casefile.specs.Decode.{Decoded, refused, decode, stored}
-use Rattle.casefile.specs.CaseLaws.{good, decode-fine, longest}
+use Rattle.casefile.specs.StoredLaws.{Whole}
+use Rattle.casefile.specs.CaseLaws.{good, decode-fine}
 use Rattle.casefile.specs.Write.{leaves, write}
-use Rattle.casefile.specs.WriteLaws.{counts, write-accepted}
+use Rattle.casefile.specs.WriteLaws.{filed-short, filed-whole, count-le as case-count-le}
 use Rattle.report.specs.Text.{text-room, Printed}
 use Rattle.verdict_text.specs.Verdict.{verdict-of}
 use Rattle.ballast.specs.Call.{answer-of}
-use Rattle.ballast.specs.CallLaws.{Whole}
 use Rattle.ballast.specs.Demand.{Promise}
 use Rattle.ballast.specs.Theorem.{count-le}
-use Rattle.ballast_c.specs.Result.{number, Small, Returned, number-count}
+use Rattle.ballast_c.specs.Result.{number, Small, Returned, returned, number-count}
 use Rattle.ballast_c.specs.Calls.{tanks, text-call, Judged}
 
 -- ---- the result number
 
 pub small-refused : (r : Refusal) → Small (Refused r)
-small-refused r = record { count = λ m e. let z : _≡_ {A = ℕ} 0 1 = cc in absurd (omega arith) }
+small-refused r = record { count = λ m e. no-count r m e }
 
-pub small-count : (k : ℕ) → k ≤ 800 → Small (Count k)
+pub small-count : (k : ℕ) → k ≤ text-room → Small (Count k)
 small-count k h = record { count = λ m e. let q : k ≡ m = cc in omega arith }
 
 -- ---- reading
@@ -45,7 +46,7 @@ pub tanks-accepted : (d : Decoded) (c : Case) → Whole d c → Count (c .n) ≡
 unfolding tanks stored
 tanks-accepted d c w = rw (w .held, w .decoded)
 
-pub few-tanks : (input : List ℕ) (c : Case) → Whole (decode input) c → c .n ≤ 800
+pub few-tanks : (input : List ℕ) (c : Case) → Whole (decode input) c → c .n ≤ text-room
 unfolding stored
 few-tanks input c w = rw (w .held) (omega (arith, good (w .figures) (decode-fine input (w .figures) (w .decoded)) .small))
 
@@ -59,7 +60,7 @@ module _ (input entry exit : List ℕ) (o : Outcome) (p : Promise input entry o 
   pub judged : (r : ℤ) → r ≡ number o → Judged input entry r exit
   judged r e =
       record {
-        called = record { is = e ∙ ap (λ w. number (w .outcome)) (p .called); buffer = ap (λ w. w .buffer) (p .called) };
+        called = returned (p .called) r e;
         demand = λ m q. p .demand m (number-count o m (sym e ∙ q));
       }
 
@@ -70,26 +71,18 @@ module _ (c : Figures) (entry exit : List ℕ) (o : Outcome) (p : leaves o exit 
   written-small =
       record {
         count = λ m e.
-            let w = counts c entry m (ap (λ x. x .outcome) (sym p) ∙ e) in
-            omega (arith, w .1, longest c (write-accepted c (length entry) (w .0) .1));
+            omega (arith, case-count-le c entry m (ap (λ x. x .outcome) (sym p) ∙ e));
       }
 
   pub written : (r : ℤ) → r ≡ number o → Returned r exit (write c entry)
-  written r e = record { is = e ∙ ap (λ w. number (w .outcome)) p; buffer = ap (λ w. w .buffer) p }
+  written r e = returned p r e
 
 -- ---- the printed verdict, into the buffer's first bytes
-
--- a write over the front of a buffer's first bytes is one over the buffer's front
-within-front : (k : ℕ) (t out : List ℕ) → length t ≤ k → k ≤ length out → onto t (take k out) ++ drop k out ≡ onto t out
-within-front k t out h l =
-    let n : length (take k out) ≡ k = length-take-le k out l in
-    append-assoc t (drop (length t) (take k out)) (drop k out)
-    ∙ ap (λ r. t ++ r) (sym (drop-append-le (length t) (take k out) (drop k out) (omega arith)) ∙ ap (drop (length t)) (take-append-drop k out))
 
 module _ (input out : List ℕ) where
   pub text-short : (r : ℤ) → length out < text-room → r ≡ number (Refused BufferTooShort) → Returned r out (text-call input out)
   unfolding text-call
-  text-short r h e = rw (lt-leb text-room (length out) h) (record { is = e; buffer = refl })
+  text-short r h e = returned (filed-short text-room Accepted (verdict-of text-room (answer-of (decode input))) out h) r e
 
   module _ (count : ℕ) (after : List ℕ) (h : text-room ≤ length out) (same : length after ≡ length (take text-room out))
       (p : Printed (verdict-of (length (take text-room out)) (answer-of (decode input))) (take text-room out) count after) where
@@ -102,15 +95,12 @@ module _ (input out : List ℕ) where
     -- what was written over a part's front is no longer than the part
     pub text-le : count ≤ text-room
     text-le =
-        let l : length after ≡ length t + (text-room - length t) =
-        ap length (front .bytes) ∙ simp (length-append, length-drop, length-take-le text-room out h) in
-        omega (arith, front .size, same, length-take-le text-room out h)
+        omega (arith, front .size, same, length-take-le text-room out h, ap length (front .bytes), holds (length t) t (take text-room out) refl)
 
     pub text-written : (r : ℤ) → r ≡ number (Count count) → Returned r (after ++ drop text-room out) (text-call input out)
     unfolding text-call
     text-written r e =
-        rw (le-leb text-room (length out) h)
-        (record {
-          is = e ∙ ap pos (front .size);
-          buffer = rw (front .bytes) (within-front text-room t out (omega (arith, front .size, text-le)) h);
-        })
+        returned
+        (filed-whole text-room Accepted t out count _ h refl (front .size)
+        (rw (front .bytes) (within-front text-room t out (omega (arith, front .size, text-le)) h)))
+        r e

@@ -1,17 +1,18 @@
 -- The one number that a C function returns: a count from 0 on, or a refusal below 0. Assumes nothing.
 use mathlib.Core.Path.{_≡_, refl, sym, ap, _∙_}
 use mathlib.Core.List.{List}
-use Prim.Native.Nat.{ℕ, suc, _^_, _<_}
+use mathlib.Core.Bool.{cond}
+use Prim.Native.Nat.{ℕ, zero, suc, _^_, _<_}
+use native.Mathlib.Omega.{arith}
 use lib.IntN.{ℤ, pos, negsuc, negℤ}
-use Rattle.outcome.specs.declared.Refusal.the-variants.{BufferTooShort, FieldMissing, WrongTag, WrongLength, ValueCutShort, OutsideLimits, TrailingBytes, ZeroPivot, OutsideRange}
 use Rattle.outcome.specs.declared.Outcome.{Outcome}
 use Rattle.outcome.specs.declared.Outcome.the-variants.{Count, Refused}
-use Rattle.outcome.specs.Outcome.{numberOf, refusalOf}
-use Rattle.casefile.specs.Write.{Written}
+use Rattle.outcome.specs.Outcome.{numberOf, refusalOf, refuses, outcomeNumber}
+use Rattle.outcome.specs.Laws.{refusal-of-number}
+use Rattle.casefile.specs.Write.{Written, leaves}
 
 abbrev pub number : Outcome → ℤ
-number (Count m) = pos m
-number (Refused r) = negℤ (pos (numberOf r))
+number o = cond (refuses o) (negℤ (pos (outcomeNumber o))) (pos (outcomeNumber o))
 
 -- what can be returned: a count that is a signed number of 64 bits
 pub record Small (o : Outcome) : Type 0 where
@@ -22,6 +23,9 @@ pub record Returned (result : ℤ) (exit : List ℕ) (w : Written) : Type 0 wher
   pub is : result ≡ number (w .outcome)
   pub buffer : exit ≡ w .buffer
 
+pub returned : {o : Outcome} {exit : List ℕ} {w : Written} → leaves o exit ≡ w → (r : ℤ) → r ≡ number o → Returned r exit w
+returned p r e = record { is = e ∙ ap (λ w. number (w .outcome)) p; buffer = ap (λ w. w .buffer) p }
+
 -- ---- count or refusal, without ambiguity: the outcome that a number stands for
 
 abbrev pub outcomeOf : ℤ → Outcome
@@ -30,15 +34,11 @@ outcomeOf (negsuc k) = Refused (refusalOf (suc k))
 
 pub outcome-of-number : (o : Outcome) → outcomeOf (number o) ≡ o
 outcome-of-number (Count m) = refl
-outcome-of-number (Refused BufferTooShort) = refl
-outcome-of-number (Refused FieldMissing) = refl
-outcome-of-number (Refused WrongTag) = refl
-outcome-of-number (Refused WrongLength) = refl
-outcome-of-number (Refused ValueCutShort) = refl
-outcome-of-number (Refused OutsideLimits) = refl
-outcome-of-number (Refused TrailingBytes) = refl
-outcome-of-number (Refused ZeroPivot) = refl
-outcome-of-number (Refused OutsideRange) = refl
+outcome-of-number (Refused r) = go (numberOf r) refl
+  where
+    go : (k : ℕ) → numberOf r ≡ k → outcomeOf (negℤ (pos k)) ≡ Refused r
+    go zero e = absurd (omega (arith, e, ap numberOf (sym (refusal-of-number r) ∙ ap refusalOf e)))
+    go (suc k) e = ap Refused (ap refusalOf (sym e) ∙ refusal-of-number r)
 
 pub number-count : (o : Outcome) (m : ℕ) → number o ≡ pos m → o ≡ Count m
 number-count o m e = sym (outcome-of-number o) ∙ ap outcomeOf e

@@ -1,7 +1,8 @@
 // What a program in C or Rust links: the calls on numbers and byte slices, each with one result number. `include/ballast.h` declares them.
 ghost use mathlib.Core.Path.{_≡_};
+ghost use Rattle.casefile.specs.Case.{given};
 ghost use Rattle.casefile.specs.Decode.{decode};
-ghost use Rattle.casefile.specs.Write.{given, write};
+ghost use Rattle.casefile.specs.Write.{write};
 ghost use Rattle.ballast_c.specs.Result.{number, Small, Returned};
 ghost use Rattle.ballast_c.specs.Calls.{tanks, text-call, Judged};
 use outcome::Outcome;

@@ -9,6 +9,8 @@ use native.Mathlib.Nat.{div-lt-iff-lt-mul, mod-lt, div-add-mod', zero-add, pow-s
 use native.Mathlib.Omega.{arith}
 use lib.Dec.{lit<, lit≤}
 use lib.Pow.{pow-add}
+use Rattle.buffer.specs.Buffer.{onto}
+use Rattle.buffer.specs.Laws.{part, put, then}
 use Rattle.bigendian.specs.Number.{be, bytes}
 
 -- every element is a byte
@@ -104,6 +106,13 @@ bytes-two v w x h =
     be-append (bytes v a) (bytes w b) ∙ rw (be-bytes v a ha, be-bytes w b hb, length-bytes w b) (div-add-mod' x (256 ^ w)) in
     let g : bytes (length l) (be l) ≡ l = bytes-be (bytes-append (bytes-are v a ha) (bytes-are w b hb)) in
     rw (n, e) at g
+
+-- the two parts written one after the other: the buffer xs₀, then xs with the first part over its front, and ys the rest with the second over its own
+pub written-two : (v w x : ℕ) (xs₀ xs ys : List ℕ) → x < 256 ^ (v + w) → xs ≡ onto (bytes v (x / 256 ^ w)) xs₀
+    → ys ≡ onto (bytes w (x % 256 ^ w)) (part xs v) → put xs v ys ≡ onto (bytes (v + w) x) xs₀
+written-two v w x xs₀ xs ys h e f =
+    then xs₀ xs (bytes v (x / 256 ^ w)) (bytes w (x % 256 ^ w)) v ys e (length-bytes v (x / 256 ^ w)) f
+    ∙ ap (λ (d : List ℕ). onto d xs₀) (sym (bytes-two v w x h))
 
 -- ---- a single byte
 

@@ -1,10 +1,11 @@
 // Big-endian numbers of 2, 4 and 8 bytes: read at a place of a slice, and written over the front of a lent part.
 // Signed numbers are in two's complement. Each function asks only that its bytes lie within the slice.
 ghost use mathlib.Core.Path.{_≡_};
-ghost use Prim.Native.Nat.{_+_, _≤_, _<_};
+ghost use Prim.Native.Nat.{_+_, _-_, _^_, _≤_, _<_};
 ghost use lib.ListN.{length, take, drop};
-ghost use mir.Syntax.{w16, w32, w64};
-ghost use mir.Val.{toZ, ofZ};
+ghost use lib.Signed.{mag};
+ghost use mir.Syntax.{Width, w16, w32, w64};
+ghost use mir.Val.{toZ, ofZ, bits};
 ghost use Rattle.bigendian.specs.Number.{be, bytes};
 ghost use Rattle.buffer.specs.Buffer.{onto};
 
@@ -41,34 +42,15 @@ pub fn read_u64(s: &[u8], at: usize) -> u64
     high * 4294967296 + low
 }
 
-// The signed number that has these bits.
-fn signed16(x: u16) -> i16
-    ensures { λ r. ⌜ r ≡ toZ w16 x ⌝ }
+// The signed number that has these bits, in the width whose highest number is `ones`.
+fn signed_of(x: u64, ones: u64) -> i64
+    requires { ⌜ x ≤ ones ⌝ }
+    ensures { λ r. ⌜ ((w : Width) → ones ≡ 2 ^ bits w - 1 → r ≡ toZ w x) ⌝ }
 {
-    if x < 32768 {
-        x as i16
-    } else {
-        !((65535 - x) as i16)
-    }
-}
-
-fn signed32(x: u32) -> i32
-    ensures { λ r. ⌜ r ≡ toZ w32 x ⌝ }
-{
-    if x < 2147483648 {
-        x as i32
-    } else {
-        !((4294967295 - x) as i32)
-    }
-}
-
-fn signed64(x: u64) -> i64
-    ensures { λ r. ⌜ r ≡ toZ w64 x ⌝ }
-{
-    if x < 9223372036854775808 {
+    if x <= ones / 2 {
         x as i64
     } else {
-        !((18446744073709551615 - x) as i64)
+        !((ones - x) as i64)
     }
 }
 
@@ -76,21 +58,21 @@ pub fn read_i16(s: &[u8], at: usize) -> i16
     requires { ⌜ at + 2 ≤ length (now s) ⌝ }
     ensures { λ r. ⌜ r ≡ toZ w16 (be (take 2 (drop at (now (s .entry))))) ⌝ }
 {
-    signed16(read_u16(s, at))
+    signed_of(read_u16(s, at) as u64, 65535) as i16
 }
 
 pub fn read_i32(s: &[u8], at: usize) -> i32
     requires { ⌜ at + 4 ≤ length (now s) ⌝ }
     ensures { λ r. ⌜ r ≡ toZ w32 (be (take 4 (drop at (now (s .entry))))) ⌝ }
 {
-    signed32(read_u32(s, at))
+    signed_of(read_u32(s, at) as u64, 4294967295) as i32
 }
 
 pub fn read_i64(s: &[u8], at: usize) -> i64
     requires { ⌜ at + 8 ≤ length (now s) ⌝ }
     ensures { λ r. ⌜ r ≡ toZ w64 (be (take 8 (drop at (now (s .entry))))) ⌝ }
 {
-    signed64(read_u64(s, at))
+    signed_of(read_u64(s, at), 18446744073709551615)
 }
 
 pub fn write_u16(out: &mut [u8], x: u16)
@@ -117,32 +99,13 @@ pub fn write_u64(out: &mut [u8], x: u64)
     write_u32(&mut out[4..], (x % 4294967296) as u32);
 }
 
-// The bits of a signed number.
-fn bits16(z: i16) -> u16
-    ensures { λ r. ⌜ r ≡ ofZ w16 z ⌝ }
+// The bits of a signed number, in the width whose highest number is `ones`.
+fn bits_of(z: i64, ones: u64) -> u64
+    requires { ⌜ mag z ≤ ones ⌝ }
+    ensures { λ r. ⌜ ((w : Width) → ones ≡ 2 ^ bits w - 1 → r ≡ ofZ w z) ⌝ }
 {
     if z < 0 {
-        65535 - ((!z) as u16)
-    } else {
-        z as u16
-    }
-}
-
-fn bits32(z: i32) -> u32
-    ensures { λ r. ⌜ r ≡ ofZ w32 z ⌝ }
-{
-    if z < 0 {
-        4294967295 - ((!z) as u32)
-    } else {
-        z as u32
-    }
-}
-
-fn bits64(z: i64) -> u64
-    ensures { λ r. ⌜ r ≡ ofZ w64 z ⌝ }
-{
-    if z < 0 {
-        18446744073709551615 - ((!z) as u64)
+        ones - ((!z) as u64)
     } else {
         z as u64
     }
@@ -152,19 +115,19 @@ pub fn write_i16(out: &mut [u8], z: i16)
     requires { ⌜ 2 ≤ length (now out) ⌝ }
     ensures { λ _. ⌜ now (out .exit) ≡ onto (bytes 2 (ofZ w16 z)) (now (out .entry)) ⌝ }
 {
-    write_u16(out, bits16(z));
+    write_u16(out, bits_of(z as i64, 65535) as u16);
 }
 
 pub fn write_i32(out: &mut [u8], z: i32)
     requires { ⌜ 4 ≤ length (now out) ⌝ }
     ensures { λ _. ⌜ now (out .exit) ≡ onto (bytes 4 (ofZ w32 z)) (now (out .entry)) ⌝ }
 {
-    write_u32(out, bits32(z));
+    write_u32(out, bits_of(z as i64, 4294967295) as u32);
 }
 
 pub fn write_i64(out: &mut [u8], z: i64)
     requires { ⌜ 8 ≤ length (now out) ⌝ }
     ensures { λ _. ⌜ now (out .exit) ≡ onto (bytes 8 (ofZ w64 z)) (now (out .entry)) ⌝ }
 {
-    write_u64(out, bits64(z));
+    write_u64(out, bits_of(z, 18446744073709551615));
 }

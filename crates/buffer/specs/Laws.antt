@@ -1,65 +1,17 @@
 -- What a buffer holds after writes over its front, after a part of it was lent and came back with a write over the part's front, and after writes
 -- from a place on, one after another in either order of work. Assumes nothing.
-use mathlib.Core.Path.{_≡_, refl, sym, _∙_, subst}
+use mathlib.Core.Path.{_≡_, refl, sym, ap, _∙_}
 use mathlib.Core.List.{List, [], _∷_, _++_, append-assoc, append-nil}
 use Prim.Native.Nat.{ℕ, _+_, _-_, _≤_, _<_}
+use native.Mathlib.Nat.{zero-add}
 use native.Mathlib.Numerals.{add-one}
 use native.Mathlib.Omega.{arith}
 use lib.ListN.{length, take, drop, set, length-append, length-take, length-drop, drop-of-length-le, take-append-drop}
-use lib.Seq.{take-all, take-at, drop-at, drop-drop, take-take, take-append-le, length-take-le, set-split}
+use lib.Seq.{take-all, take-at, drop-at, drop-drop, take-take, take-append-le, drop-append-le, length-take-le, set-split}
 use borrow.Rule.Slice.PartMut.{putMid}
 use Rattle.buffer.specs.Buffer.{onto, onto-at}
 
 module _ {X : Type 0} where
-  pub length-onto : (b out : List X) → length b ≤ length out → length (onto b out) ≡ length out
-  length-onto b out h = simp (length-append, length-drop) (omega arith)
-
-  pub take-onto : (b out : List X) → take (length b) (onto b out) ≡ b
-  take-onto b out = take-at b (drop (length b) out) (length b) refl
-
-  -- a part that goes to the buffer's end
-  abbrev pub part : List X → ℕ → List X
-  part xs at = take (length xs - at) (drop at xs)
-
-  abbrev pub put : List X → ℕ → List X → List X
-  put xs at ys = putMid at (length xs - at) xs ys
-
-  pub part-is : (xs : List X) (at : ℕ) → part xs at ≡ drop at xs
-  part-is xs at = take-all (length xs - at) (drop at xs) (simp length-drop (omega arith))
-
-  past : (xs : List X) (at : ℕ) → drop (length xs - at) (drop at xs) ≡ []
-  past xs at = let h : length (drop at xs) ≤ length xs - at = simp length-drop (omega arith) in drop-of-length-le (drop at xs) h
-
-  -- b was written over the front of the part that begins where what is done ends
-  pub then : (xs₀ xs done b : List X) (at : ℕ) (ys : List X) → xs ≡ onto done xs₀ → length done ≡ at
-      → ys ≡ onto b (part xs at) → put xs at ys ≡ onto (done ++ b) xs₀
-  then xs₀ xs done b at ys e l f =
-      rw (f, past xs at, part-is xs at, append-nil)
-      (rw (
-        e,
-        l,
-        take-at done (drop at xs₀) at l,
-        drop-at done (drop at xs₀) at l,
-        drop-drop (length b) at xs₀,
-        length-append,
-        l,
-        append-assoc,
-      ))
-
-  -- the part from `at` of `count` elements was filled with b
-  pub filled : (xs₀ xs done b : List X) (at count : ℕ) → xs ≡ onto done xs₀ → length done ≡ at → length b ≡ count
-      → putMid at count xs b ≡ onto (done ++ b) xs₀
-  filled xs₀ xs done b at count e l k =
-      rw (
-        e,
-        take-at done (drop (length done) xs₀) at l,
-        drop-at done (drop (length done) xs₀) at l,
-        drop-drop count (length done) xs₀,
-        length-append,
-        k,
-        append-assoc,
-      )
-
   -- ---- from a place on
 
   pub length-onto-at : (at : ℕ) (b out : List X) → at + length b ≤ length out → length (onto-at at b out) ≡ length out
@@ -86,27 +38,72 @@ module _ {X : Type 0} where
         append-assoc a b (drop (length a + length b) (drop at out)),
       )
 
-  before : (at : ℕ) (a b out : List X) → at + length a ≤ length out → onto-at at a (onto-at (at + length a) b out) ≡ onto-at at (a ++ b) out
-  before at a b out h =
-      let r : ℕ = at + length a in
-      let p : List X = take r out in
-      let t : List X = b ++ drop (length b) (drop r out) in
-      let n : length p ≡ r = length-take-le r out h in
-      rw (
-        drop-drop (length a) at (p ++ t),
-        drop-at p t r n,
-        take-append-le at p t (omega arith),
-        take-take at r out (omega arith),
-        length-append a b,
-        ← (drop-drop (length a) at out),
-        drop-drop (length b) (length a) (drop at out),
-        append-assoc a b (drop (length a + length b) (drop at out)),
-      )
-
   -- a before b, which begins at r
   pub onto-at-before : (at r : ℕ) (a b out : List X) → at + length a ≡ r → r ≤ length out → onto-at at a (onto-at r b out) ≡ onto-at at (a ++ b) out
   onto-at-before at r a b out e h =
-      subst (λ (k : ℕ). onto-at at a (onto-at k b out) ≡ onto-at at (a ++ b) out) e (before at a b out (omega arith))
+      let p : List X = take r out in
+      let t : List X = b ++ drop (length b) (drop r out) in
+      rw (
+        length-append a b,
+        ← (drop-drop (length b) (length a) (drop at out)),
+        drop-drop (length a) at (p ++ t),
+        drop-drop (length a) at out,
+        e,
+        drop-at p t r (length-take-le r out h),
+        take-append-le at p t (omega (arith, length-take-le r out h)),
+        take-take at r out (omega arith),
+        append-assoc a b (drop (length b) (drop r out)),
+      )
 
   pub set-onto-at : (at : ℕ) (d : X) (out : List X) → at < length out → set out at d ≡ onto-at at (d ∷ []) out
   set-onto-at at d out h = set-split out at d h ∙ rw (drop-drop 1 at out, add-one at)
+
+  -- ---- over the front
+
+  pub length-onto : (b out : List X) → length b ≤ length out → length (onto b out) ≡ length out
+  length-onto b out h = length-onto-at 0 b out (omega arith)
+
+  pub take-onto : (b out : List X) → take (length b) (onto b out) ≡ b
+  take-onto b out = take-at b (drop (length b) out) (length b) refl
+
+  -- what was written over the front has room there
+  pub holds : (m : ℕ) (b out : List X) → length b ≡ m → m ≤ length (onto b out)
+  holds m b out e = simp length-append (omega arith)
+
+  -- b behind what is done
+  onto-then : (out done b : List X) {at : ℕ} → length done ≡ at → onto-at at b (onto done out) ≡ onto (done ++ b) out
+  onto-then out done b l = rw (← l) (rw (zero-add (length done)) at (onto-at-then 0 done b out (omega arith)))
+
+  -- over the front of a buffer's first k elements, and so over the buffer's front
+  pub within-front : (k : ℕ) (b out : List X) → length b ≤ k → k ≤ length out → onto b (take k out) ++ drop k out ≡ onto b out
+  within-front k b out h l =
+      let n : length (take k out) ≡ k = length-take-le k out l in
+      append-assoc b (drop (length b) (take k out)) (drop k out)
+      ∙ ap (λ r. b ++ r) (sym (drop-append-le (length b) (take k out) (drop k out) (omega arith)) ∙ ap (drop (length b)) (take-append-drop k out))
+
+  -- ---- over the front of a part that goes to the buffer's end
+
+  abbrev pub part : List X → ℕ → List X
+  part xs at = take (length xs - at) (drop at xs)
+
+  abbrev pub put : List X → ℕ → List X → List X
+  put xs at ys = putMid at (length xs - at) xs ys
+
+  pub part-is : (xs : List X) (at : ℕ) → part xs at ≡ drop at xs
+  part-is xs at = take-all (length xs - at) (drop at xs) (simp length-drop (omega arith))
+
+  past : (xs : List X) (at : ℕ) → drop (length xs - at) (drop at xs) ≡ []
+  past xs at = let h : length (drop at xs) ≤ length xs - at = simp length-drop (omega arith) in drop-of-length-le (drop at xs) h
+
+  pub put-is : (xs b : List X) (at : ℕ) {ys : List X} → ys ≡ onto b (part xs at) → put xs at ys ≡ onto-at at b xs
+  put-is xs b at f = rw (f, past xs at, part-is xs at, append-nil)
+
+  -- b was written over the front of the part that begins where what is done ends
+  pub then : (xs₀ xs done b : List X) (at : ℕ) (ys : List X) → xs ≡ onto done xs₀ → length done ≡ at
+      → ys ≡ onto b (part xs at) → put xs at ys ≡ onto (done ++ b) xs₀
+  then xs₀ xs done b at ys e l f = put-is xs b at f ∙ rw e (onto-then xs₀ done b l)
+
+  -- the part from `at` of `count` elements was filled with b
+  pub filled : (xs₀ xs done b : List X) (at count : ℕ) → xs ≡ onto done xs₀ → length done ≡ at → length b ≡ count
+      → putMid at count xs b ≡ onto (done ++ b) xs₀
+  filled xs₀ xs done b at count e l k = rw (e, ← k) (onto-then xs₀ done b l)

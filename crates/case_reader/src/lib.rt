@@ -1,29 +1,47 @@
 // The reader of case files: bytes in, the case or the first refusal out.
 ghost use mathlib.Core.Path.{_≡_};
 ghost use lib.ListN.{drop};
-ghost use Rattle.casefile.specs.Decode.{headStatus, endStatus, refused as refusedBy, decode, reading};
-ghost use Rattle.case_reader.specs.Read.{TrialRoom, TrialFound};
+ghost use Rattle.casefile.specs.Decode.{endStatus, refused as refusedBy, decode, reading};
+ghost use Rattle.case_reader.specs.Read.{HeadFound, TrialRoom, TrialFound};
 use casefile::Case;
 use casefile::Reading;
 use fields::HEADER_SIZE;
 use outcome::Refusal;
 use outcome::Status;
 
-// The first refusal of the head, or none.
-fn read_head(s: &[u8]) -> Status
-    ensures { λ r. ⌜ r ≡ headStatus (now (s .entry)) ⌝ }
+// What reading the head gives: the first refusal or none, and the figures where there is none.
+struct Head {
+    status: Status,
+    n: usize,
+    exponent: usize,
+    rounds: usize,
+}
+
+fn read_head(s: &[u8]) -> Head
+    ensures { λ r. ⌜ HeadFound (now (s .entry)) r ⌝ }
 {
     let field = fields::check_field(s, 0, casefile::HEAD_TAG, casefile::HEAD_LENGTH);
     if let Status::Refused(_) = field {
-        return field;
+        return Head {
+            status: field,
+            n: 0,
+            exponent: 0,
+            rounds: 0,
+        };
     }
     let n = s[casefile::N_AT] as usize;
     let exponent = s[casefile::EXPONENT_AT] as usize;
     let rounds = s[casefile::ROUNDS_AT] as usize;
-    if casefile::head_fine(n, exponent, rounds) {
+    let status = if casefile::head_fine(n, exponent, rounds) {
         Status::Accepted
     } else {
         Status::Refused(Refusal::OutsideLimits)
+    };
+    Head {
+        status,
+        n,
+        exponent,
+        rounds,
     }
 }
 
@@ -49,11 +67,11 @@ fn read_trial(s: &[u8], at: usize, rounds: usize, n: usize, y: &mut [i32]) -> St
 fn read_end(s: &[u8], at: usize) -> Status
     ensures { λ r. ⌜ r ≡ endStatus (drop at (now (s .entry))) ⌝ }
 {
-    let field = fields::check_field(s, at, casefile::END_TAG, casefile::END_LENGTH);
+    let field = fields::check_field(s, at, fields::END_TAG, fields::END_LENGTH);
     if let Status::Refused(_) = field {
         return field;
     }
-    if s.len() - at == HEADER_SIZE {
+    if s.len() - at == fields::END_SIZE {
         Status::Accepted
     } else {
         Status::Refused(Refusal::TrailingBytes)
@@ -90,12 +108,12 @@ pub fn read_case(s: &[u8]) -> Reading
     ensures { λ r. ⌜ r ≡ reading (decode (now (s .entry))) ⌝ }
 {
     let head = read_head(s);
-    if let Status::Refused(q) = head {
+    let found = head.status;
+    if let Status::Refused(q) = found {
         return refused(q);
     }
-    let n = s[casefile::N_AT] as usize;
-    let exponent = s[casefile::EXPONENT_AT] as usize;
-    let rounds = s[casefile::ROUNDS_AT] as usize;
+    let n = head.n;
+    let rounds = head.rounds;
     let mut a = [0i16; 64];
     let mut t = [0u16; 64];
     let mut b = [0i32; 8];
@@ -116,7 +134,7 @@ pub fn read_case(s: &[u8]) -> Reading
     }
     let case = Case {
         n,
-        exponent,
+        exponent: head.exponent,
         rounds,
         coefficients: a,
         tolerances: t,

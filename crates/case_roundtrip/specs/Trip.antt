@@ -1,18 +1,15 @@
 -- What the round trips give.
-use mathlib.Core.Bool.{Bool, true, false}
 use mathlib.Core.List.{List}
 use Prim.Native.Nat.{ℕ}
 use lib.ListN.{length}
-use lib.Dec.{leb}
 use Rattle.outcome.specs.declared.Outcome.{Outcome}
 use Rattle.outcome.specs.declared.Outcome.the-variants.{Count, Refused}
-use Rattle.outcome.specs.declared.Refusal.the-variants.{BufferTooShort}
-use Rattle.buffer.specs.Buffer.{onto}
+use Rattle.outcome.specs.declared.Status.the-variants.{Accepted, Refused as RefusedBy}
 use Rattle.casefile.specs.declared.Reading.{Reading}
 use Rattle.casefile.specs.Case.{Case}
 use Rattle.casefile.specs.Layout.{longestCase}
 use Rattle.casefile.specs.Decode.{Decoded, accepted, refused, reading}
-use Rattle.casefile.specs.Write.{Written, write}
+use Rattle.casefile.specs.Write.{Written, filed, inRoom, write}
 
 -- "what the writer wrote into any buffer is read back as what was meant"; where it refused, the refusal
 abbrev pub readBack : Outcome → Case → Reading
@@ -31,10 +28,6 @@ abbrev pub comesBack : Reading → List ℕ → ReadBack
 comesBack read buffer = record { read = read; buffer = buffer }
 
 -- "what was read and written again has its old bytes": s over the front of out, where out has the room that the writer asks
-abbrev pub overFront : Bool → List ℕ → List ℕ → Written
-overFront true s out = record { outcome = Count (length s); buffer = onto s out }
-overFront false s out = record { outcome = Refused BufferTooShort; buffer = out }
-
 abbrev pub writtenAgain : Decoded → List ℕ → List ℕ → Written
-writtenAgain (accepted c) s out = overFront (leb longestCase (length out)) s out
-writtenAgain (refused r) s out = record { outcome = Refused r; buffer = out }
+writtenAgain (accepted c) s out = filed (inRoom longestCase (length out) Accepted) s out
+writtenAgain (refused r) s out = filed (RefusedBy r) s out

@@ -1,7 +1,8 @@
 // Demand 2's round trip as a caller sees it: these functions use the contracts of the reader and the writer and nothing inside them.
 ghost use mathlib.Core.Path.{_≡_};
+ghost use Rattle.casefile.specs.Case.{given};
 ghost use Rattle.casefile.specs.Decode.{decode};
-ghost use Rattle.casefile.specs.Write.{given, leaves};
+ghost use Rattle.casefile.specs.Write.{leaves};
 ghost use Rattle.case_roundtrip.specs.Trip.{writtenAndRead, comesBack, writtenAgain};
 use casefile::Reading;
 use outcome::Outcome;

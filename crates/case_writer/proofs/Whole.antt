@@ -1,58 +1,52 @@
--- The whole case in the buffer: head, rows and tail, one behind the other, are its encoding.
+-- The whole case in the buffer: head, rows, trial and end, one behind the other, are its encoding.
 -- Assumes nothing.
-use mathlib.Core.Path.{_≡_, sym, ap, _∙_}
-use mathlib.Core.List.{List, [], _++_, append-assoc}
-use Prim.Native.Nat.{ℕ, _+_, _≤_}
+use mathlib.Core.Path.{_≡_, refl, sym, ap, _∙_}
+use mathlib.Core.List.{List, _++_, append-assoc, append-nil}
+use Prim.Native.Nat.{ℕ, zero, suc, _+_}
 use native.Mathlib.Omega.{arith}
 use lib.ListN.{length, length-append}
-use borrow.Author.Tests.{le-leb, lt-leb}
-use Rattle.outcome.specs.declared.Refusal.{Refusal}
-use Rattle.outcome.specs.declared.Refusal.the-variants.{BufferTooShort}
-use Rattle.outcome.specs.declared.Outcome.the-variants.{Count, Refused as RefusedBy}
-use Rattle.outcome.specs.declared.Status.the-variants.{Accepted, Refused}
-use Rattle.buffer.specs.Buffer.{onto}
+use lib.IntN.{ℤ}
+use Rattle.buffer.specs.Buffer.{onto, joined}
 use Rattle.buffer.specs.Laws.{part, put, then}
-use Rattle.fields.specs.Field.{headerSize, field}
-use Rattle.fields.specs.FieldLaws.{length-field}
-use Rattle.casefile.specs.Case.{Case, caseStatus}
-use Rattle.casefile.specs.Layout.{joined, headTag, rowsEnd, trialSize, endTag, longestCase, rowField, rowsIn, encode}
-use Rattle.casefile.specs.TailLaws.{trialBytes}
-use Rattle.casefile.specs.CaseLaws.{Good, good, headBytes, encode-is, length-rows-in, length-encode, longest}
-use Rattle.casefile.specs.Write.{writeStatus, write, leaves}
+use Rattle.figures.specs.Figures.{i32, spread}
+use Rattle.figures.specs.FigureLaws.{length-spread}
+use Rattle.fields.specs.Field.{headerSize, header, field, endField}
+use Rattle.fields.specs.FieldLaws.{length-header, length-field, field-is-header}
+use Rattle.casefile.specs.Case.{Case}
+use Rattle.casefile.specs.Layout.{headTag, headValue, rowsAt, rowsEnd, trialTag, trialLength, trialSize, rowField, rowsIn, encode}
+use Rattle.casefile.specs.TailLaws.{trialBytes, length-trial}
+use Rattle.casefile.specs.CaseLaws.{Good, encode-is, length-rows-in}
+
+pub trial-written : (out : List ℕ) (len : ℕ) (y : List ℤ) (x0 y1 : List ℕ) → len ≡ trialLength (length y)
+    → x0 ≡ onto (header trialTag len) out
+    → y1 ≡ onto (spread i32 y) (part x0 headerSize)
+    → put x0 headerSize y1 ≡ onto (trialBytes 0 y) out
+trial-written out len y x0 y1 el e0 e1 =
+    let v : List ℕ = spread i32 y in
+    then out x0 (header trialTag len) v headerSize y1 e0 (length-header trialTag len) e1
+    ∙ ap (λ (d : List ℕ). onto d out) (field-is-header trialTag v len (length-spread i32 y ∙ sym el) ∙ sym (append-nil (field trialTag v)))
+
+pub no-trial : (out : List ℕ) (k : ℕ) (y : List ℤ) → (k ≡ 0 → ⊥) → out ≡ onto (trialBytes k y) out
+no-trial out zero y h = absurd (h refl)
+no-trial out (suc k) y h = refl
 
 module _ (c : Case) (g : Good c) where
-  pub fields-written : (tail : ℕ) (out x0 y1 y2 : List ℕ) → tail ≡ rowsEnd (c .n)
-      → x0 ≡ onto (field headTag (headBytes c)) out
-      → y1 ≡ onto (joined rowField (rowsIn c)) (part x0 6)
-      → y2 ≡ onto (trialBytes (c .rounds) (c .trial) ++ field endTag []) (part (put x0 6 y1) tail)
-      → put (put x0 6 y1) tail y2 ≡ onto (encode c) out
-  fields-written tail out x0 y1 y2 et e0 e1 e2 =
-      let H : List ℕ = field headTag (headBytes c) in
+  pub fields-written : (tail end : ℕ) (out x0 y1 y2 y3 : List ℕ) → tail ≡ rowsEnd (c .n) → end ≡ tail + trialSize (c .rounds) (c .n)
+      → x0 ≡ onto (field headTag (headValue (c .n) (c .exponent) (c .rounds))) out
+      → y1 ≡ onto (joined rowField (rowsIn c)) (part x0 rowsAt)
+      → y2 ≡ onto (trialBytes (c .rounds) (c .trial)) (part (put x0 rowsAt y1) tail)
+      → y3 ≡ onto endField (part (put (put x0 rowsAt y1) tail y2) end)
+      → put (put (put x0 rowsAt y1) tail y2) end y3 ≡ onto (encode c) out
+  fields-written tail end out x0 y1 y2 y3 et ee e0 e1 e2 e3 =
+      let v : List ℕ = headValue (c .n) (c .exponent) (c .rounds) in
+      let H : List ℕ = field headTag v in
       let R : List ℕ = joined rowField (rowsIn c) in
-      let T : List ℕ = trialBytes (c .rounds) (c .trial) ++ field endTag [] in
-      let l0 : length H ≡ 6 = length-field headTag (headBytes c) in
+      let T : List ℕ = trialBytes (c .rounds) (c .trial) in
+      let l0 : length H ≡ rowsAt = length-field headTag v in
       let l1 : length (H ++ R) ≡ tail = length-append H R ∙ omega (arith, length-rows-in c g) in
-      let p1 = then out x0 H R 6 y1 e0 l0 e1 in
-      let p2 = then out (put x0 6 y1) (H ++ R) T tail y2 p1 l1 e2 in
-      p2 ∙ ap (λ (d : List ℕ). onto d out) (append-assoc H R T ∙ sym (encode-is c))
-
--- how long the parts are
-pub sizes : (c : Case) → caseStatus c ≡ Accepted
-    → (length (encode c) ≡ rowsEnd (c .n) + (trialSize (c .rounds) (c .n) + headerSize)) × (length (encode c) ≤ longestCase)
-sizes c e = (length-encode c (good c e), longest c e)
-
--- ---- the answer
-
-module _ (c : Case) (out : List ℕ) where
-  pub too-short : length out + 1 ≤ longestCase → leaves (RefusedBy BufferTooShort) out ≡ write c out
-  unfolding write writeStatus
-  too-short h = rw (lt-leb longestCase (length out) (omega arith))
-
-  pub case-refused : longestCase ≤ length out → (q : Refusal) → caseStatus c ≡ Refused q → leaves (RefusedBy q) out ≡ write c out
-  unfolding write writeStatus
-  case-refused h q e = rw (le-leb longestCase (length out) h, e)
-
-  pub written : longestCase ≤ length out → caseStatus c ≡ Accepted → (m : ℕ) (exit : List ℕ) → m ≡ length (encode c) → exit ≡ onto (encode c) out
-      → leaves (Count m) exit ≡ write c out
-  unfolding write writeStatus
-  written h e m exit em ex = rw (le-leb longestCase (length out) h, e, em, ex)
+      let l2 : length ((H ++ R) ++ T) ≡ end =
+      length-append (H ++ R) T ∙ omega (arith, length-trial (c .rounds) (c .n) (c .trial) (g .trial-counted)) in
+      let p1 = then out x0 H R rowsAt y1 e0 l0 e1 in
+      let p2 = then out (put x0 rowsAt y1) (H ++ R) T tail y2 p1 l1 e2 in
+      let p3 = then out (put (put x0 rowsAt y1) tail y2) ((H ++ R) ++ T) endField end y3 p2 l2 e3 in
+      p3 ∙ ap (λ (d : List ℕ). onto d out) (append-assoc (H ++ R) T endField ∙ append-assoc H R (T ++ endField) ∙ sym (encode-is c))

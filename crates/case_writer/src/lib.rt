@@ -1,16 +1,15 @@
 // The writer of case files.
 ghost use mathlib.Core.Path.{_≡_};
-ghost use mathlib.Core.List.{_++_, _∷_, []};
 ghost use Prim.Native.Nat.{_≤_};
 ghost use lib.ListN.{length};
 ghost use Rattle.outcome.specs.declared.Status.the-variants.{Accepted};
 ghost use Rattle.buffer.specs.Buffer.{onto};
 ghost use Rattle.fields.specs.Field.{field};
-ghost use Rattle.casefile.specs.Case.{mostTanks, counted, figuresFine, caseStatus};
-ghost use Rattle.casefile.specs.Layout.{headTag, endTag, longestCase, encode};
+ghost use Rattle.casefile.specs.Case.{mostTanks, given, counted, figuresFine, caseStatus};
+ghost use Rattle.casefile.specs.Layout.{headTag, headValue, longestCase, encode};
 ghost use Rattle.casefile.specs.TailLaws.{trialBytes};
-ghost use Rattle.casefile.specs.Write.{given, write, leaves};
-ghost use Rattle.case_writer.specs.Room.{HeadRoom, TailRoom};
+ghost use Rattle.casefile.specs.Write.{write, leaves};
+ghost use Rattle.case_writer.specs.Room.{HeadRoom, TrialRoom};
 use fields::HEADER_SIZE;
 use outcome::Outcome;
 use outcome::Refusal;
@@ -91,7 +90,7 @@ fn check_case(
 // The head's field, over the front of out.
 fn write_head(out: &mut [u8], n: usize, exponent: usize, rounds: usize)
     requires { ⌜ HeadRoom (now out) n exponent rounds ⌝ }
-    ensures { λ _. ⌜ now (out .exit) ≡ onto (field headTag (n ∷ exponent ∷ rounds ∷ [])) (now (out .entry)) ⌝ }
+    ensures { λ _. ⌜ now (out .exit) ≡ onto (field headTag (headValue n exponent rounds)) (now (out .entry)) ⌝ }
 {
     fields::write_header(out, casefile::HEAD_TAG, casefile::HEAD_LENGTH as u16);
     out[casefile::N_AT] = n as u8;
@@ -99,23 +98,15 @@ fn write_head(out: &mut [u8], n: usize, exponent: usize, rounds: usize)
     out[casefile::ROUNDS_AT] = rounds as u8;
 }
 
-// The trial's field, where the case brings a trial, and the end field, over the front of out.
-fn write_tail(out: &mut [u8], rounds: usize, n: usize, y: &[i32])
-    requires { ⌜ TailRoom (now out) rounds n (now y) ⌝ }
-    ensures { λ _. ⌜ now (out .exit) ≡ onto (trialBytes rounds (now (y .entry)) ++ field endTag []) (now (out .entry)) ⌝ }
+// The trial's field, where the case brings a trial, over the front of out.
+fn write_trial(out: &mut [u8], rounds: usize, n: usize, y: &[i32])
+    requires { ⌜ TrialRoom (now out) rounds n (now y) ⌝ }
+    ensures { λ _. ⌜ now (out .exit) ≡ onto (trialBytes rounds (now (y .entry))) (now (out .entry)) ⌝ }
 {
     if rounds == 0 {
         let length = casefile::trial_length(n);
         fields::write_header(out, casefile::TRIAL_TAG, length as u16);
         figures::write_i32s(&mut out[HEADER_SIZE..], y);
-        let end = HEADER_SIZE + length;
-        fields::write_header(
-            &mut out[end..],
-            casefile::END_TAG,
-            casefile::END_LENGTH as u16,
-        );
-    } else {
-        fields::write_header(out, casefile::END_TAG, casefile::END_LENGTH as u16);
     }
 }
 
@@ -139,8 +130,10 @@ fn write_fields(
     write_head(out, n, exponent, rounds);
     row_writer::write_rows(&mut out[casefile::ROWS_AT..], n, a, t, b, f);
     let tail = casefile::rows_end(n);
-    write_tail(&mut out[tail..], rounds, n, y);
-    tail + casefile::trial_size(rounds, n) + HEADER_SIZE
+    write_trial(&mut out[tail..], rounds, n, y);
+    let end = tail + casefile::trial_size(rounds, n);
+    fields::write_end(&mut out[end..]);
+    end + fields::END_SIZE
 }
 
 // Writes a case over the front of out and returns its length; bytes beyond it stay. It refuses, and changes no byte, with 1 a buffer shorter than

@@ -49,13 +49,30 @@ pub record Case : Type 0 where
   pub right-tolerances : List ℕ
   pub trial : List ℤ
 
+-- the case of these figures
+abbrev pub given : ℕ → ℕ → ℕ → List ℤ → List ℕ → List ℤ → List ℕ → List ℤ → Case
+given n exponent rounds a t b f y =
+    record {
+      n = n;
+      exponent = exponent;
+      rounds = rounds;
+      coefficients = a;
+      tolerances = t;
+      right-sides = b;
+      right-tolerances = f;
+      trial = y;
+    }
+
 abbrev pub headFine : ℕ → ℕ → ℕ → Bool
 headFine n exponent rounds = leb 1 n && (leb n mostTanks && (leb exponent mostExponent && leb rounds mostRounds))
 
--- "K: .. 0 means that the case brings its trial": n figures, or none where K is above 0
+-- "K: .. 0 means that the case brings its trial": what holds there, and what where K is above 0
+abbrev pub whereBrought : {X : Type 0} → ℕ → X → X → X
+whereBrought zero x y = x
+whereBrought (suc k) x y = y
+
 abbrev pub trialCount : ℕ → ℕ → ℕ
-trialCount zero n = n
-trialCount (suc k) n = 0
+trialCount k n = whereBrought k n 0
 
 -- "n × n for the first two, n for the others, none for the trial where K is above 0"
 unfoldable pub counted : Case → Bool
@@ -66,13 +83,15 @@ counted c =
     && (eqb (length (c .right-tolerances)) (c .n)
     && eqb (length (c .trial)) (trialCount (c .rounds) (c .n)))))
 
+-- A, E, b and f within their limits: of a case, and of a row
+abbrev pub listsFine : List ℤ → List ℕ → List ℤ → List ℕ → Bool
+listsFine a t b f =
+    all (within coefficientLimit) a
+    && (all (upTo toleranceLimit) t && (all (within rightSideLimit) b && all (upTo rightToleranceLimit) f))
+
 unfoldable pub figuresFine : Case → Bool
 figuresFine c =
-    all (within coefficientLimit) (c .coefficients)
-    && (all (upTo toleranceLimit) (c .tolerances)
-    && (all (within rightSideLimit) (c .right-sides)
-    && (all (upTo rightToleranceLimit) (c .right-tolerances)
-    && all (within trialLimit) (c .trial))))
+    listsFine (c .coefficients) (c .tolerances) (c .right-sides) (c .right-tolerances) && all (within trialLimit) (c .trial)
 
 -- "then with 6 an n, e or K outside its limits; then with 4 a list whose count is not the one due ..; then with 6 any other figure outside its limits"
 unfoldable pub caseStatus : Case → Status

@@ -1,30 +1,65 @@
 -- The two laws of case files: a case within its limits, encoded and decoded, is that case; bytes that decode to a case are its encoding.
 -- And what decodes is within the limits, and how long an encoding is. Assumes nothing.
 use mathlib.Core.Path.{_≡_, refl, sym, _∙_, subst}
-use mathlib.Core.List.{List, [], _∷_, _++_, append-assoc, append-nil, map}
+use mathlib.Core.List.{List, [], _∷_, _++_, append-nil, map}
 use mathlib.Core.Bool.{true}
 use Prim.Native.Nat.{ℕ, zero, suc, _+_, _*_, _≤_}
 use native.Mathlib.Omega.{arith}
 use native.Mathlib.Nat.{mul-one}
-use lib.ListN.{length, getD, take, length-append}
+use lib.ListN.{length, take, length-append}
+use lib.Seq.{drop-cons}
 use lib.Dec.{leb, eqb}
 use borrow.Author.Tests.{leb-true, eqb-true, eq-eqb}
 use Rattle.outcome.specs.declared.Refusal.the-variants.{WrongLength, OutsideLimits}
 use Rattle.outcome.specs.declared.Status.{Status}
 use Rattle.outcome.specs.declared.Status.the-variants.{Accepted, Refused}
 use Rattle.outcome.specs.Outcome.{check}
-use Rattle.outcome.specs.Laws.{check-accepted, first-accepted}
+use Rattle.outcome.specs.Laws.{check-accepted, first-accepted, first-check}
 use Rattle.bigendian.specs.Number.{bytes}
 use Rattle.bigendian.specs.NumberLaws.{Bytes, bytes-drop}
+use Rattle.buffer.specs.Buffer.{joined}
+use Rattle.buffer.specs.RunLaws.{joined-append, joined-map}
 use Rattle.figures.specs.Figures.{upTo, within, all}
-use Rattle.figures.specs.FigureLaws.{and-true}
-use Rattle.fields.specs.Field.{headerSize, field, valueOf, afterField, fieldStatus}
-use Rattle.fields.specs.FieldLaws.{length-field, field-accepted, value-room, field-is}
-use Rattle.casefile.specs.Case.{Case, mostTanks, mostExponent, mostRounds, coefficientLimit, toleranceLimit, rightSideLimit, rightToleranceLimit, trialLimit, headFine, trialCount, counted, figuresFine, caseStatus}
-use Rattle.casefile.specs.Layout.{joined, headTag, headLength, rowSize, rowsEnd, endTag, longestCase, rowField, rowsIn, trialSize, trialFields, encode}
-use Rattle.casefile.specs.Decode.{headByte, headStatus, rowsStatus, rowsOf, trialStatus, afterTrial, endStatus, tailOf, inputStatus, caseOf, accepted, decoded, decode}
-use Rattle.casefile.specs.RowsLaws.{Rows, rows-back, rows-sound, rows-same, length-rows, after-rows, joined-length, joined-fine, length-row-fields, rows-fit, Lists, split-sound, length-split, joined-split, split-joined}
-use Rattle.casefile.specs.TailLaws.{trialBytes, length-trial, trial-back, trial-read, trial-same, end-back, end-same}
+use Rattle.figures.specs.FigureLaws.{and-true, length-items}
+use Rattle.fields.specs.Field.{headerSize, field, endTag, endSize, endField, valueOf, afterField, fieldStatus}
+use Rattle.fields.specs.FieldLaws.{length-field, field-accepted, field-room, field-is}
+use Rattle.casefile.specs.Case.{Case, mostTanks, mostExponent, mostRounds, coefficientLimit, toleranceLimit, rightSideLimit, rightToleranceLimit, trialLimit, headFine, trialCount, counted, listsFine, figuresFine, caseStatus}
+use Rattle.casefile.specs.Layout.{headTag, headLength, headValue, nAt, exponentAt, roundsAt, rowsAt, rowSize, rowsEnd, longestCase, rowField, rowsIn, trialLength, trialSize, trialFields, encode}
+use Rattle.casefile.specs.Decode.{headTanks, headExponent, headRounds, headStatus, rowsStatus, rowsOf, trialStatus, afterTrial, endStatus, tailOf, inputStatus, caseOf, accepted, decoded, decode}
+use Rattle.casefile.specs.RowLaws.{lists-fine}
+use Rattle.casefile.specs.RowsLaws.{Rows, rows-back, rows-sound, rows-same, joined-length, joined-fine, length-row-fields, rows-after, rows-fit, Lists, split-sound, length-split, joined-split, split-joined}
+use Rattle.casefile.specs.TailLaws.{brought-most, trialBytes, length-trial, trial-back, trial-read, trial-same, end-back, end-same}
+
+-- ---- what a head that is not refused has
+
+pub record HeadSmall (n exponent rounds : ℕ) : Type 0 where
+  pub least : 1 ≤ n
+  pub small : n ≤ mostTanks
+  pub exponent-small : exponent ≤ mostExponent
+  pub rounds-small : rounds ≤ mostRounds
+
+pub head-small : (n exponent rounds : ℕ) → headFine n exponent rounds ≡ true → HeadSmall n exponent rounds
+head-small n exponent rounds h =
+    let h1 = and-true (leb 1 n) _ h in
+    let h2 = and-true (leb n mostTanks) _ (h1 .1) in
+    let h3 = and-true (leb exponent mostExponent) _ (h2 .1) in
+    record {
+      least = leb-true _ _ (h1 .0);
+      small = leb-true _ _ (h2 .0);
+      exponent-small = leb-true _ _ (h3 .0);
+      rounds-small = leb-true _ _ (h3 .1);
+    }
+
+module _ (s : List ℕ) (e : headStatus s ≡ Accepted) where
+  pub record HeadParts : Type 0 where
+    pub field-fine : fieldStatus headTag headLength s ≡ Accepted
+    pub figures-fine : headFine (headTanks s) (headExponent s) (headRounds s) ≡ true
+
+  pub head-parts : HeadParts
+  unfolding headStatus
+  head-parts =
+      let w = first-check (fieldStatus headTag headLength s) _ OutsideLimits e in
+      record { field-fine = w .0; figures-fine = w .1 }
 
 -- ---- what a case that is not refused has
 
@@ -44,80 +79,65 @@ good c e =
     let w1 = first-accepted (check (headFine (c .n) (c .exponent) (c .rounds)) OutsideLimits) _ e in
     let w2 = first-accepted (check (counted c) WrongLength) _ (w1 .1) in
     let h0 = check-accepted _ OutsideLimits (w1 .0) in
-    let h1 = and-true (leb 1 (c .n)) _ h0 in
-    let h2 = and-true (leb (c .n) mostTanks) _ (h1 .1) in
-    let h3 = and-true (leb (c .exponent) mostExponent) _ (h2 .1) in
+    let h = head-small (c .n) (c .exponent) (c .rounds) h0 in
     let c0 = check-accepted (counted c) WrongLength (w2 .0) in
     let c1 = and-true (eqb (length (c .coefficients)) (c .n * c .n)) _ c0 in
     let c2 = and-true (eqb (length (c .tolerances)) (c .n * c .n)) _ (c1 .1) in
     let c3 = and-true (eqb (length (c .right-sides)) (c .n)) _ (c2 .1) in
     let c4 = and-true (eqb (length (c .right-tolerances)) (c .n)) _ (c3 .1) in
-    let f0 = check-accepted (figuresFine c) OutsideLimits (w2 .1) in
-    let f1 = and-true (all (within coefficientLimit) (c .coefficients)) _ f0 in
-    let f2 = and-true (all (upTo toleranceLimit) (c .tolerances)) _ (f1 .1) in
-    let f3 = and-true (all (within rightSideLimit) (c .right-sides)) _ (f2 .1) in
-    let f4 = and-true (all (upTo rightToleranceLimit) (c .right-tolerances)) _ (f3 .1) in
+    let f0 = and-true (listsFine (c .coefficients) (c .tolerances) (c .right-sides) (c .right-tolerances)) _ (check-accepted (figuresFine c) OutsideLimits (w2 .1)) in
+    let f = lists-fine _ _ _ _ (f0 .0) in
     record {
       head = h0;
-      least = leb-true _ _ (h1 .0);
-      small = leb-true _ _ (h2 .0);
-      exponent-small = leb-true _ _ (h3 .0);
-      rounds-small = leb-true _ _ (h3 .1);
+      least = h .least;
+      small = h .small;
+      exponent-small = h .exponent-small;
+      rounds-small = h .rounds-small;
       lists = record {
         la = eqb-true _ _ (c1 .0);
         lt = eqb-true _ _ (c2 .0);
         lb = eqb-true _ _ (c3 .0) ∙ sym (mul-one (c .n));
         lf = eqb-true _ _ (c4 .0) ∙ sym (mul-one (c .n));
-        fa = f1 .0;
-        ft = f2 .0;
-        fb = f3 .0;
-        ff = f4 .0;
+        fa = f .0;
+        ft = f .1;
+        fb = f .2;
+        ff = f .3;
       };
       trial-counted = eqb-true _ _ (c4 .1);
-      trial-fine = f4 .1;
+      trial-fine = f0 .1;
     }
 
 -- ---- the encoding, field after field
 
-pub joined-append : {A X : Type 0} (f : A → List X) (xs ys : List A) → joined f (xs ++ ys) ≡ joined f xs ++ joined f ys
-joined-append f [] ys = refl
-joined-append f (x ∷ xs) ys = rw (joined-append f xs ys) (sym (append-assoc (f x) (joined f xs) (joined f ys)))
-
-joined-map : {A X : Type 0} (g : A → List X) (xs : List A) → joined (λ f. f) (map g xs) ≡ joined g xs
-joined-map g [] = refl
-joined-map g (x ∷ xs) = rw (joined-map g xs)
-
-abbrev pub headBytes : Case → List ℕ
-headBytes c = c .n ∷ c .exponent ∷ c .rounds ∷ []
-
 pub encode-is : (c : Case)
-    → encode c ≡ field headTag (headBytes c) ++ (joined rowField (rowsIn c) ++ (trialBytes (c .rounds) (c .trial) ++ field endTag []))
+    → encode c ≡ field headTag (headValue (c .n) (c .exponent) (c .rounds)) ++ (joined rowField (rowsIn c) ++ (trialBytes (c .rounds) (c .trial) ++ endField))
 unfolding encode
 encode-is c =
     rw (
-      joined-append (λ f. f) (map rowField (rowsIn c)) (trialFields (c .rounds) (c .trial) ++ (field endTag [] ∷ [])),
-      joined-append (λ f. f) (trialFields (c .rounds) (c .trial)) (field endTag [] ∷ []),
+      joined-append (λ f. f) (map rowField (rowsIn c)) (trialFields (c .rounds) (c .trial) ++ (endField ∷ [])),
+      joined-append (λ f. f) (trialFields (c .rounds) (c .trial)) (endField ∷ []),
       joined-map rowField (rowsIn c),
-      append-nil (field endTag []),
+      append-nil endField,
     )
 
 -- ---- encoded and decoded
 
-head-back : (n x k : ℕ) (rest : List ℕ) → headFine n x k ≡ true → headStatus (field headTag (n ∷ x ∷ k ∷ []) ++ rest) ≡ Accepted
+head-back : (n x k : ℕ) (rest : List ℕ) → headFine n x k ≡ true → headStatus (field headTag (headValue n x k) ++ rest) ≡ Accepted
 unfolding headStatus field bytes
-head-back n x k rest h = rw (field-accepted headTag (n ∷ x ∷ k ∷ []) rest headLength refl (omega arith), h)
+head-back n x k rest h = rw (field-accepted headTag (headValue n x k) rest headLength refl (omega arith), h)
 
 pub decode-encode : (c : Case) → caseStatus c ≡ Accepted → decode (encode c) ≡ accepted c
 unfolding decode inputStatus caseOf field bytes
 decode-encode c e =
     let g = good c e in
-    let T : List ℕ = trialBytes (c .rounds) (c .trial) ++ field endTag [] in
-    let b = rows-back (c .n) (g .small) (split-sound (c .n) (c .n) _ _ _ _ (g .lists)) T in
+    let T : List ℕ = trialBytes (c .rounds) (c .trial) ++ endField in
+    let rows = split-sound (c .n) (c .n) _ _ _ _ (g .lists) in
+    let b = rows-back (c .n) (g .small) rows T in
     let m = length-split (c .n) (c .n) (c .coefficients) (c .tolerances) (c .right-sides) (c .right-tolerances) in
     let accepted-rows = rw m at (b .accepted) in
     let read-rows = rw m at (b .read) in
-    let after = rw m at (b .after) in
-    let t = trial-back (c .rounds) (c .n) (c .trial) (field endTag []) (g .small) (g .trial-counted) (g .trial-fine) in
+    let after = rw m at (rows-after (c .n) rows T) in
+    let t = trial-back (c .rounds) (c .n) (c .trial) endField (g .small) (g .trial-counted) (g .trial-fine) in
     let j = joined-split (c .n) (c .n) _ _ _ _ (g .lists) in
     rw (
       encode-is c,
@@ -147,10 +167,10 @@ decodes s c e = go (inputStatus s) refl e
 
 module _ (s : List ℕ) (e : inputStatus s ≡ Accepted) where
   abbrev N : ℕ
-  N = headByte 0 s
+  N = headTanks s
 
   abbrev K : ℕ
-  K = headByte 2 s
+  K = headRounds s
 
   pub record Parts : Type 0 where
     pub head : headStatus s ≡ Accepted
@@ -166,17 +186,14 @@ module _ (s : List ℕ) (e : inputStatus s ≡ Accepted) where
       let w3 = first-accepted (trialStatus K N (tailOf s)) _ (w2 .1) in
       record { head = w1 .0; rows = w2 .0; trial = w3 .0; end = w3 .1 }
 
-  pub head-parts : (fieldStatus headTag headLength s ≡ Accepted) × (headFine N (headByte 1 s) K ≡ true)
-  unfolding headStatus
-  head-parts =
-      let w = first-accepted (fieldStatus headTag headLength s) _ (parts .head) in
-      (w .0, check-accepted (headFine N (headByte 1 s) K) OutsideLimits (w .1))
+  head-is : HeadParts s (parts .head)
+  head-is = head-parts s (parts .head)
 
   rows-are : Rows N (rowsOf N N (afterField headLength s))
   rows-are = rows-sound N N (afterField headLength s) (parts .rows)
 
   rows-count : length (rowsOf N N (afterField headLength s)) ≡ N
-  rows-count = length-rows N N (afterField headLength s)
+  rows-count = length-items _ _ N (afterField headLength s)
 
   -- what decodes is within the limits
   case-fine : caseStatus (caseOf s) ≡ Accepted
@@ -188,7 +205,7 @@ module _ (s : List ℕ) (e : inputStatus s ≡ Accepted) where
       let lb = rw rows-count at (joined-length N (λ r. r .right-side) 1 (λ r p. p .right-count) rows-are) in
       let lf = rw rows-count at (joined-length N (λ r. r .right-tolerance) 1 (λ r p. p .right-tolerance-count) rows-are) in
       rw (
-        head-parts .1,
+        head-is .figures-fine,
         eq-eqb _ _ la,
         eq-eqb _ _ lt,
         eq-eqb _ _ (lb ∙ mul-one N),
@@ -201,32 +218,30 @@ module _ (s : List ℕ) (e : inputStatus s ≡ Accepted) where
         t .fine,
       )
 
-  three : (v : List ℕ) → 3 ≤ length v → take 3 v ≡ getD v 0 0 ∷ getD v 1 0 ∷ getD v 2 0 ∷ []
-  three [] h = absurd (omega arith)
-  three (x ∷ []) h = absurd (omega arith)
-  three (x ∷ y ∷ []) h = absurd (omega arith)
-  three (x ∷ y ∷ z ∷ v) h = refl
+  head-value : take headLength (valueOf s) ≡ headValue N (headExponent s) K
+  head-value =
+      let h : rowsAt ≤ length s = field-room headTag headLength s (head-is .field-fine) in
+      rw (drop-cons s nAt 0 (omega arith), drop-cons s exponentAt 0 (omega arith), drop-cons s roundsAt 0 (omega arith))
 
   case-bytes : Bytes s → encode (caseOf s) ≡ s
   unfolding caseOf
   case-bytes bs =
       let s1 : List ℕ = afterField headLength s in
-      let b1 = bytes-drop (headerSize + headLength) bs in
-      let b2 : Bytes (tailOf s) = rw (after-rows N N (afterField headLength s)) (bytes-drop (N * rowSize N) b1) in
+      let b1 = bytes-drop rowsAt bs in
+      let b2 = bytes-drop (N * rowSize N) b1 in
       let split-is = rw rows-count at (split-joined N rows-are) in
-      let v = three (valueOf s) (value-room headTag headLength s (head-parts .0)) in
       encode-is (caseOf s)
       ∙ rw (
         split-is,
         end-same (afterTrial K N (tailOf s)) (parts .end) (after-bytes K b2),
         trial-same K N (tailOf s) (parts .trial) b2,
         rows-same N N (afterField headLength s) (parts .rows) b1,
-        ← v,
+        ← head-value,
       )
-      (field-is headTag headLength s (head-parts .0) bs)
+      (field-is headTag headLength s (head-is .field-fine) bs)
     where
       after-bytes : (k : ℕ) → Bytes (tailOf s) → Bytes (afterTrial k N (tailOf s))
-      after-bytes zero b = unfold afterTrial in bytes-drop (headerSize + 4 * N) b
+      after-bytes zero b = unfold afterTrial in bytes-drop (headerSize + trialLength N) b
       after-bytes (suc k) b = unfold afterTrial in b
 
 pub decode-fine : (s : List ℕ) (c : Case) → decode s ≡ accepted c → caseStatus c ≡ Accepted
@@ -243,12 +258,12 @@ length-rows-in c g =
     rw (length-split (c .n) (c .n) (c .coefficients) (c .tolerances) (c .right-sides) (c .right-tolerances)) at r
 
 pub length-encode : (c : Case) → Good c
-    → length (encode c) ≡ rowsEnd (c .n) + (trialSize (c .rounds) (c .n) + headerSize)
+    → length (encode c) ≡ rowsEnd (c .n) + (trialSize (c .rounds) (c .n) + endSize)
 length-encode c g =
     rw (encode-is c)
     (simp length-append
     (rw (
-      length-field headTag (headBytes c),
+      length-field headTag (headValue (c .n) (c .exponent) (c .rounds)),
       length-rows-in c g,
       length-trial (c .rounds) (c .n) (c .trial) (g .trial-counted),
       length-field endTag [],
@@ -258,8 +273,4 @@ length-encode c g =
 pub longest : (c : Case) → caseStatus c ≡ Accepted → length (encode c) ≤ longestCase
 longest c e =
     let g = good c e in
-    omega (arith, length-encode c g, rows-fit (c .n) (g .small), size (c .rounds) (c .n) (g .small))
-  where
-    size : (k n : ℕ) → n ≤ 8 → trialSize k n ≤ 35
-    size zero n h = omega arith
-    size (suc k) n h = omega arith
+    omega (arith, length-encode c g, rows-fit (c .n) (g .small), brought-most (c .rounds) (headerSize + trialLength (c .n)))

@@ -2,35 +2,27 @@
 -- Assumes nothing.
 use mathlib.Core.Path.{_≡_, refl}
 use mathlib.Core.List.{List, [], _∷_, _++_, map}
-use Prim.Native.Nat.{ℕ}
+use Prim.Native.Nat.{ℕ, _+_}
 use lib.ListN.{length, take, drop}
 use lib.IntN.{pos, negsuc}
 use Rattle.outcome.specs.declared.Refusal.the-variants.{FieldMissing, WrongTag, WrongLength, ValueCutShort, OutsideLimits, TrailingBytes}
 use Rattle.bigendian.specs.Number.{be, bytes}
-use Rattle.figures.specs.Figures.{figures, spread, all}
-use Rattle.fields.specs.Field.{field, fieldStatus}
-use Rattle.casefile.specs.Case.{Case}
-use Rattle.casefile.specs.Layout.{longestCase, rowBytes, split, encode}
-use Rattle.casefile.specs.Decode.{headStatus, rowOf, rowFine, rowStatus, rowsStatus, rowsOf, afterRows, trialStatus, trialOf, afterTrial, endStatus, inputStatus, caseOf, Decoded, accepted, refused, decode}
+use Rattle.figures.specs.Figures.{items, spread, all}
+use Rattle.fields.specs.Field.{headerSize, field, fieldStatus}
+use Rattle.casefile.specs.Case.{Case, given}
+use Rattle.casefile.specs.Layout.{rowsAt, longestCase, rowBytes, split, encode}
+use Rattle.casefile.specs.Decode.{headStatus, rowOf, rowFine, rowStatus, rowsStatus, trialStatus, trialOf, afterTrial, endStatus, inputStatus, caseOf, Decoded, accepted, refused, decode}
 
 -- `01 0003 01 01 01 02 000C 0005 0000 FFFFFFFE 00000000 FF 0000`
-abbrev printed : List ℕ
-printed =
-    1 ∷ 0 ∷ 3 ∷ 1 ∷ 1 ∷ 1 ∷ 2 ∷ 0 ∷ 12 ∷ 0 ∷ 5 ∷ 0 ∷ 0 ∷ 255 ∷ 255 ∷ 255 ∷ 254 ∷ 0 ∷ 0 ∷ 0 ∷ 0 ∷ 255 ∷ 0 ∷ 0
+abbrev pub printedBytes : List ℕ
+printedBytes =
+    0x01 ∷ 0x00 ∷ 0x03 ∷ 0x01 ∷ 0x01 ∷ 0x01
+    ∷ 0x02 ∷ 0x00 ∷ 0x0C ∷ 0x00 ∷ 0x05 ∷ 0x00 ∷ 0x00 ∷ 0xFF ∷ 0xFF ∷ 0xFF ∷ 0xFE ∷ 0x00 ∷ 0x00 ∷ 0x00 ∷ 0x00
+    ∷ 0xFF ∷ 0x00 ∷ 0x00
     ∷ []
 
 abbrev printedCase : Case
-printedCase =
-    record {
-      n = 1;
-      exponent = 1;
-      rounds = 1;
-      coefficients = pos 5 ∷ [];
-      tolerances = 0 ∷ [];
-      right-sides = negsuc 1 ∷ [];
-      right-tolerances = 0 ∷ [];
-      trial = [];
-    }
+printedCase = given 1 1 1 (pos 5 ∷ []) (0 ∷ []) (negsuc 1 ∷ []) (0 ∷ []) []
 
 -- eight rows, and the trial that the case brings
 abbrev long : List ℕ
@@ -90,23 +82,31 @@ longCase =
 pub long-length : length long ≡ longestCase
 long-length = refl
 
-pub encodings : map encode (printedCase ∷ longCase ∷ []) ≡ printed ∷ long ∷ []
+pub encodings : map encode (printedCase ∷ longCase ∷ []) ≡ printedBytes ∷ long ∷ []
 unfolding bytes spread field rowBytes split encode
 encodings = refl
+
+-- n 9
+abbrev pub nineTanks : List ℕ
+nineTanks = 0x01 ∷ 0x00 ∷ 0x03 ∷ 0x09 ∷ 0x01 ∷ 0x01 ∷ []
+
+-- coefficient −32,768, 8000: the printed case with it
+abbrev pub leastCoefficient : List ℕ
+leastCoefficient = take (rowsAt + headerSize) printedBytes ++ (0x80 ∷ 0x00 ∷ drop (rowsAt + headerSize + 2) printedBytes)
 
 -- in the order of the answers below: printed; longest; nothing at all; an end field at the head's place; a head of length 4; a head whose value is cut short;
 -- n 9; coefficient −32,768; a last field that is cut short; a byte behind the end field
 abbrev inputs : List (List ℕ)
 inputs =
-    printed
+    printedBytes
     ∷ long
     ∷ []
     ∷ (255 ∷ 0 ∷ 0 ∷ [])
     ∷ (1 ∷ 0 ∷ 4 ∷ 1 ∷ 1 ∷ 1 ∷ 0 ∷ [])
     ∷ (1 ∷ 0 ∷ 3 ∷ 1 ∷ 1 ∷ [])
-    ∷ (1 ∷ 0 ∷ 3 ∷ 9 ∷ 1 ∷ 1 ∷ [])
-    ∷ (take 9 printed ++ (128 ∷ 0 ∷ drop 11 printed))
-    ∷ take 22 printed
+    ∷ nineTanks
+    ∷ leastCoefficient
+    ∷ take 22 printedBytes
     ∷ (long ++ (0 ∷ []))
     ∷ []
 
@@ -125,5 +125,5 @@ answers =
     ∷ []
 
 pub decodings : map decode inputs ≡ answers
-unfolding be figures all fieldStatus headStatus rowOf rowFine rowStatus rowsStatus rowsOf afterRows trialStatus trialOf afterTrial endStatus inputStatus caseOf decode
+unfolding be items all fieldStatus headStatus rowOf rowFine rowStatus rowsStatus trialStatus trialOf afterTrial endStatus inputStatus caseOf decode
 decodings = refl

@@ -1,16 +1,13 @@
 -- The bytes of a case: document 01, "Layout of case and record".
-use Prim.Native.Nat.{ℕ, zero, suc, _+_, _*_}
+use Prim.Native.Nat.{ℕ, zero, suc, _+_, _*_, _≤_}
 use mathlib.Core.List.{List, [], _∷_, _++_, map}
-use lib.ListN.{take, drop}
+use mathlib.Core.Path.{_≡_}
+use lib.ListN.{length, take, drop}
 use lib.IntN.{ℤ}
+use Rattle.buffer.specs.Buffer.{joined}
 use Rattle.figures.specs.Figures.{Kind, i16, u16, i32, u32, spread}
-use Rattle.fields.specs.Field.{headerSize, field}
-use Rattle.casefile.specs.Case.{Case}
-
--- the lists that the parts of a list of things are, one after another
-abbrev pub joined : {A X : Type 0} → (A → List X) → List A → List X
-joined f [] = []
-joined f (a ∷ rest) = f a ++ joined f rest
+use Rattle.fields.specs.Field.{headerSize, field, endField}
+use Rattle.casefile.specs.Case.{Case, mostTanks, whereBrought}
 
 -- ---- fields and their lengths
 
@@ -20,6 +17,22 @@ headTag = 1
 
 abbrev pub headLength : ℕ
 headLength = 3
+
+abbrev pub headValue : ℕ → ℕ → ℕ → List ℕ
+headValue n exponent rounds = n ∷ exponent ∷ rounds ∷ []
+
+-- where they stand, and where the first row does
+abbrev pub nAt : ℕ
+nAt = headerSize
+
+abbrev pub exponentAt : ℕ
+exponentAt = nAt + 1
+
+abbrev pub roundsAt : ℕ
+roundsAt = exponentAt + 1
+
+abbrev pub rowsAt : ℕ
+rowsAt = headerSize + headLength
 
 -- "02, length 4n + 8, one for each row"
 abbrev pub rowTag : ℕ
@@ -31,9 +44,18 @@ rowLength n = 4 * n + 8
 abbrev pub rowSize : ℕ → ℕ
 rowSize n = headerSize + rowLength n
 
--- the rows stand behind the head
+-- where the tolerances, b and f stand in a row's value: each behind the figures before it
+abbrev pub tolerancesAt : ℕ → ℕ
+tolerancesAt n = i16 .width * n
+
+abbrev pub rightSideAt : ℕ → ℕ
+rightSideAt n = tolerancesAt n + u16 .width * n
+
+abbrev pub rightToleranceAt : ℕ → ℕ
+rightToleranceAt n = rightSideAt n + i32 .width * 1
+
 abbrev pub rowsEnd : ℕ → ℕ
-rowsEnd n = headerSize + headLength + n * rowSize n
+rowsEnd n = rowsAt + n * rowSize n
 
 -- "03, length 4n, present exactly if K is 0"
 abbrev pub trialTag : ℕ
@@ -47,15 +69,7 @@ abbrev pub trialLength : ℕ → ℕ
 trialLength n = 4 * n
 
 abbrev pub trialSize : ℕ → ℕ → ℕ
-trialSize zero n = headerSize + trialLength n
-trialSize (suc k) n = 0
-
--- "FF, length 0"
-abbrev pub endTag : ℕ
-endTag = 255
-
-abbrev pub endLength : ℕ
-endLength = 0
+trialSize k n = whereBrought k (headerSize + trialLength n) 0
 
 -- "The longest case has 388 bytes."
 abbrev pub longestCase : ℕ
@@ -72,6 +86,22 @@ pub record Row : Type 0 where
 
 abbrev pub rowMade : List ℤ → List ℕ → List ℤ → List ℕ → Row
 rowMade a t b f = record { coefficients = a; tolerances = t; right-side = b; right-tolerance = f }
+
+-- lists of one row's figures
+pub record RowLists (n : ℕ) (a : List ℤ) (t : List ℕ) (b : List ℤ) (f : List ℕ) : Type 0 where
+  pub small : n ≤ mostTanks
+  pub la : length a ≡ n
+  pub lt : length t ≡ n
+  pub lb : length b ≡ 1
+  pub lf : length f ≡ 1
+
+-- lists that hold the figures of n rows
+pub record RowsRoom (n : ℕ) (a : List ℤ) (t : List ℕ) (b : List ℤ) (f : List ℕ) : Type 0 where
+  pub small : n ≤ mostTanks
+  pub la : n * n ≤ length a
+  pub lt : n * n ≤ length t
+  pub lb : n ≤ length b
+  pub lf : n ≤ length f
 
 -- "n coefficients of 2 bytes, n tolerances of 2 bytes (unsigned), b (4 bytes), f (4 bytes, unsigned)"
 unfoldable pub rowBytes : Row → List ℕ
@@ -95,14 +125,13 @@ rowsIn c = split (c .n) (c .n) (c .coefficients) (c .tolerances) (c .right-sides
 
 -- the trial's field, where K is 0
 abbrev pub trialFields : ℕ → List ℤ → List (List ℕ)
-trialFields zero y = field trialTag (spread trialKind y) ∷ []
-trialFields (suc k) y = []
+trialFields k y = whereBrought k (field trialTag (spread trialKind y) ∷ []) []
 
 -- "A case is, in this order"
 abbrev pub fieldsOf : Case → List (List ℕ)
 fieldsOf c =
-    field headTag (c .n ∷ c .exponent ∷ c .rounds ∷ [])
-    ∷ (map rowField (rowsIn c) ++ (trialFields (c .rounds) (c .trial) ++ (field endTag [] ∷ [])))
+    field headTag (headValue (c .n) (c .exponent) (c .rounds))
+    ∷ (map rowField (rowsIn c) ++ (trialFields (c .rounds) (c .trial) ++ (endField ∷ [])))
 
 unfoldable pub encode : Case → List ℕ
 encode c = joined (λ f. f) (fieldsOf c)

@@ -1,25 +1,33 @@
 -- A row and its bytes: a row that was written is read back, and the bytes that are read as a row are the row's.
 -- Assumes nothing.
-use mathlib.Core.Path.{_≡_, sym, ap, _∙_}
+use mathlib.Core.Path.{_≡_, refl, sym, ap, _∙_}
 use mathlib.Core.List.{List, _++_, append-assoc}
 use mathlib.Core.Bool.{true}
 use Prim.Native.Nat.{ℕ, _+_, _*_, _≤_}
 use native.Mathlib.Omega.{arith}
 use lib.ListN.{length, take, drop, length-append, length-drop}
 use lib.Seq.{drop-drop, take-at}
+use lib.IntN.{ℤ}
 use Rattle.outcome.specs.declared.Refusal.the-variants.{OutsideLimits}
 use Rattle.outcome.specs.declared.Status.the-variants.{Accepted}
-use Rattle.outcome.specs.Outcome.{check}
-use Rattle.outcome.specs.Laws.{check-accepted, first-accepted}
+use Rattle.outcome.specs.Laws.{first-check}
 use Rattle.bigendian.specs.NumberLaws.{Bytes, bytes-drop}
 use Rattle.figures.specs.Figures.{i16, u16, i32, u32, upTo, within, after, spread, all}
-use Rattle.figures.specs.FigureLaws.{and-true, length-figures, length-spread, after-spread, figures-spread, spread-figures}
+use Rattle.figures.specs.FigureLaws.{and-true, length-items, length-spread, after-spread, figures-spread, spread-figures}
 use Rattle.fields.specs.Field.{headerSize, valueOf, afterField, fieldStatus}
-use Rattle.fields.specs.FieldLaws.{field-value, field-after, field-accepted, value-room, field-is, field-room-at}
-use Rattle.casefile.specs.Case.{mostTanks, coefficientLimit, toleranceLimit, rightSideLimit, rightToleranceLimit}
-use Rattle.casefile.specs.Layout.{rowTag, rowLength, rowSize, Row, rowBytes, rowField}
+use Rattle.fields.specs.FieldLaws.{length-field, field-value, field-after, field-accepted, value-room, field-is, field-room-at}
+use Rattle.casefile.specs.Case.{mostTanks, coefficientLimit, toleranceLimit, rightSideLimit, rightToleranceLimit, listsFine}
+use Rattle.casefile.specs.Layout.{rowTag, rowLength, rowSize, rightSideAt, rightToleranceAt, Row, rowBytes, rowField}
 use Rattle.casefile.specs.Decode.{rowOf, rowFine, rowStatus}
 use Rattle.casefile.specs.KindLaws.{coefficient-lawful, tolerance-lawful, right-side-lawful, right-tolerance-lawful}
+
+pub lists-fine : (a : List ℤ) (t : List ℕ) (b : List ℤ) (f : List ℕ) → listsFine a t b f ≡ true
+    → (all (within coefficientLimit) a ≡ true) × (all (upTo toleranceLimit) t ≡ true) × (all (within rightSideLimit) b ≡ true) × (all (upTo rightToleranceLimit) f ≡ true)
+lists-fine a t b f h =
+    let w1 = and-true (all (within coefficientLimit) a) _ h in
+    let w2 = and-true (all (upTo toleranceLimit) t) _ (w1 .1) in
+    let w3 = and-true (all (within rightSideLimit) b) _ (w2 .1) in
+    (w1 .0, w2 .0, w3 .0, w3 .1)
 
 -- a row of n figures, within their limits
 pub record Sound (n : ℕ) (r : Row) : Type 0 where
@@ -32,12 +40,26 @@ pub record Sound (n : ℕ) (r : Row) : Type 0 where
   pub right-fine : all (within rightSideLimit) (r .right-side) ≡ true
   pub right-tolerance-fine : all (upTo rightToleranceLimit) (r .right-tolerance) ≡ true
 
-module _ (n : ℕ) (r : Row) (s : Sound n r) where
+-- the places of a row's figures in its value
+module _ (n : ℕ) (v : List ℕ) where
+  pub at-right-side : drop (rightSideAt n) v ≡ after u16 n (after i16 n v)
+  at-right-side = sym (drop-drop (2 * n) (2 * n) v)
+
+  pub at-right-tolerance : drop (rightToleranceAt n) v ≡ after i32 1 (after u16 n (after i16 n v))
+  at-right-tolerance = sym (drop-drop 4 (rightSideAt n) v) ∙ ap (drop 4) at-right-side
+
+-- how long a row is, by its counts
+module _ (n : ℕ) (r : Row) (la : length (r .coefficients) ≡ n) (lt : length (r .tolerances) ≡ n) (lb : length (r .right-side) ≡ 1) (lf : length (r .right-tolerance) ≡ 1) where
   pub length-row : length (rowBytes r) ≡ rowLength n
   unfolding rowBytes
-  length-row =
-      simp (length-append, length-spread)
-      (omega (arith, s .coefficient-count, s .tolerance-count, s .right-count, s .right-tolerance-count))
+  length-row = simp (length-append, length-spread) (omega arith)
+
+  pub length-row-field : length (rowField r) ≡ rowSize n
+  length-row-field = length-field rowTag (rowBytes r) ∙ rw length-row
+
+module _ (n : ℕ) (r : Row) (s : Sound n r) where
+  sound-length : length (rowBytes r) ≡ rowLength n
+  sound-length = length-row n r (s .coefficient-count) (s .tolerance-count) (s .right-count) (s .right-tolerance-count)
 
   pub sound-fine : rowFine r ≡ true
   unfolding rowFine
@@ -67,7 +89,7 @@ module _ (n : ℕ) (r : Row) (s : Sound n r) where
     unfolding rowStatus
     row-accepted small =
         rw (
-          field-accepted rowTag (rowBytes r) rest (rowLength n) length-row (omega arith),
+          field-accepted rowTag (rowBytes r) rest (rowLength n) sound-length (omega arith),
           field-value rowTag (rowBytes r) rest,
           row-back,
           sound-fine,
@@ -77,33 +99,29 @@ module _ (n : ℕ) (r : Row) (s : Sound n r) where
     row-read = rw (field-value rowTag (rowBytes r) rest) row-back
 
     pub row-after : afterField (rowLength n) (rowField r ++ rest) ≡ rest
-    row-after = field-after rowTag (rowBytes r) rest (rowLength n) length-row
+    row-after = field-after rowTag (rowBytes r) rest (rowLength n) sound-length
 
 -- ---- a row's field that is not refused
 
 module _ (n : ℕ) (s : List ℕ) (accepted : rowStatus n s ≡ Accepted) where
   two : (fieldStatus rowTag (rowLength n) s ≡ Accepted) × (rowFine (rowOf n (valueOf s)) ≡ true)
   unfolding rowStatus
-  two =
-      let w = first-accepted (fieldStatus rowTag (rowLength n) s) (check (rowFine (rowOf n (valueOf s))) OutsideLimits) accepted in
-      (w .0, check-accepted (rowFine (rowOf n (valueOf s))) OutsideLimits (w .1))
+  two = first-check (fieldStatus rowTag (rowLength n) s) (rowFine (rowOf n (valueOf s))) OutsideLimits accepted
 
   pub row-sound : Sound n (rowOf n (valueOf s))
   unfolding rowFine rowOf
   row-sound =
       let v : List ℕ = valueOf s in
-      let w1 = and-true (all (within coefficientLimit) (rowOf n v .coefficients)) _ (two .1) in
-      let w2 = and-true (all (upTo toleranceLimit) (rowOf n v .tolerances)) _ (w1 .1) in
-      let w3 = and-true (all (within rightSideLimit) (rowOf n v .right-side)) _ (w2 .1) in
+      let w = lists-fine _ _ _ _ (two .1) in
       record {
-        coefficient-count = length-figures i16 n v;
-        tolerance-count = length-figures u16 n (after i16 n v);
-        right-count = length-figures i32 1 (after u16 n (after i16 n v));
-        right-tolerance-count = length-figures u32 1 (after i32 1 (after u16 n (after i16 n v)));
-        coefficients-fine = w1 .0;
-        tolerances-fine = w2 .0;
-        right-fine = w3 .0;
-        right-tolerance-fine = w3 .1;
+        coefficient-count = length-items _ _ n v;
+        tolerance-count = length-items _ _ n (after i16 n v);
+        right-count = length-items _ _ 1 (after u16 n (after i16 n v));
+        right-tolerance-count = length-items _ _ 1 (after i32 1 (after u16 n (after i16 n v)));
+        coefficients-fine = w .0;
+        tolerances-fine = w .1;
+        right-fine = w .2;
+        right-tolerance-fine = w .3;
       }
 
   module _ (bs : Bytes s) where
@@ -120,9 +138,8 @@ module _ (n : ℕ) (s : List ℕ) (accepted : rowStatus n s ≡ Accepted) where
         let b1 = bytes-drop (2 * n) bv in
         let b2 = bytes-drop (2 * n) b1 in
         let b3 = bytes-drop 4 b2 in
-        let k : 2 * n + (2 * n + (4 + 4)) ≡ 4 * n + 8 = omega arith in
-        let d : drop (rowLength n) v ≡ after u32 1 (after i32 1 (after u16 n (after i16 n v))) =
-        sym (drop-drop 4 4 (drop (2 * n) (drop (2 * n) v)) ∙ drop-drop (4 + 4) (2 * n) (drop (2 * n) v) ∙ drop-drop (2 * n + (4 + 4)) (2 * n) v ∙ rw k) in
+        let k : rightToleranceAt n + 4 ≡ rowLength n = omega arith in
+        let d : drop (rowLength n) v ≡ after u32 1 v3 = rw (← k) (sym (drop-drop 4 (rightToleranceAt n) v) ∙ ap (drop 4) (at-right-tolerance n v)) in
         simp append-assoc
         (rw (
           d,
@@ -137,9 +154,9 @@ module _ (n : ℕ) (s : List ℕ) (accepted : rowStatus n s ≡ Accepted) where
         let v : List ℕ = valueOf s in
         let e = same v (bytes-drop headerSize bs) (value-room rowTag (rowLength n) s (two .0)) in
         let t : rowBytes (rowOf n v) ≡ take (rowLength n) v =
-        sym (take-at (rowBytes (rowOf n v)) (drop (rowLength n) v) (rowLength n) (length-row n (rowOf n v) row-sound)) ∙ ap (take (rowLength n)) e in
+        sym (take-at (rowBytes (rowOf n v)) (drop (rowLength n) v) (rowLength n) (sound-length n (rowOf n v) row-sound)) ∙ ap (take (rowLength n)) e in
         rw t (field-is rowTag (rowLength n) s (two .0) bs)
 
 -- where it stands in the whole input
 pub row-room : (n : ℕ) (s : List ℕ) (at : ℕ) → rowStatus n (drop at s) ≡ Accepted → at + rowSize n ≤ length s
-row-room n s at e = field-room-at rowTag (rowLength n) s at (two n (drop at s) e .0)
+row-room n s at e = field-room-at rowTag (rowLength n) s at refl (two n (drop at s) e .0)

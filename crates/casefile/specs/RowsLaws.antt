@@ -3,23 +3,23 @@
 use mathlib.Core.Path.{_≡_, refl, sym, ap, _∙_}
 use mathlib.Core.List.{List, [], _∷_, _++_, append-assoc}
 use mathlib.Core.Bool.{Bool, true}
-use Prim.Native.Nat.{ℕ, zero, suc, _+_, _*_, _≤_}
+use Prim.Native.Nat.{ℕ, zero, suc, _+_, _*_, _≤_, _<_}
 use native.Mathlib.Omega.{arith}
-use native.Mathlib.Nat.{suc-mul, zero-mul, mul-le-mul}
+use native.Mathlib.Nat.{suc-mul, zero-mul, mul-le-mul, mul-le-mul-right}
 use lib.ListN.{length, take, drop, length-append, length-take, length-drop, take-append-drop}
 use lib.Seq.{drop-drop, take-at, drop-at}
 use lib.IntN.{ℤ}
 use Rattle.outcome.specs.declared.Status.the-variants.{Accepted}
 use Rattle.outcome.specs.Laws.{first-accepted}
 use Rattle.bigendian.specs.NumberLaws.{Bytes, bytes-drop}
-use Rattle.figures.specs.Figures.{upTo, within, all}
+use Rattle.buffer.specs.Buffer.{joined}
+use Rattle.figures.specs.Figures.{upTo, within, items, all}
 use Rattle.figures.specs.FigureLaws.{all-append, all-take, all-drop}
-use Rattle.fields.specs.Field.{valueOf, afterField}
-use Rattle.fields.specs.FieldLaws.{length-field}
+use Rattle.fields.specs.Field.{afterField}
 use Rattle.casefile.specs.Case.{mostTanks, coefficientLimit, toleranceLimit, rightSideLimit, rightToleranceLimit}
-use Rattle.casefile.specs.Layout.{joined, rowTag, rowLength, rowSize, Row, rowBytes, rowField, split}
-use Rattle.casefile.specs.Decode.{rowOf, rowStatus, rowsStatus, rowsOf, afterRows}
-use Rattle.casefile.specs.RowLaws.{Sound, length-row, row-accepted, row-read, row-after, row-sound, row-same}
+use Rattle.casefile.specs.Layout.{rowLength, rowSize, Row, RowsRoom, rowField, split}
+use Rattle.casefile.specs.Decode.{rowAt, rowStatus, rowsStatus, rowsOf, afterRows}
+use Rattle.casefile.specs.RowLaws.{Sound, length-row-field, row-accepted, row-read, row-after, row-sound, row-same}
 
 pub data Rows (n : ℕ) : List Row → Type 0 where
   none : Rows n []
@@ -31,11 +31,10 @@ pub data Rows (n : ℕ) : List Row → Type 0 where
 pub record Back (n : ℕ) (rs : List Row) (rest : List ℕ) : Type 0 where
   pub accepted : rowsStatus n (length rs) (joined rowField rs ++ rest) ≡ Accepted
   pub read : rowsOf n (length rs) (joined rowField rs ++ rest) ≡ rs
-  pub after : afterRows n (length rs) (joined rowField rs ++ rest) ≡ rest
 
 pub rows-back : (n : ℕ) → n ≤ mostTanks → {rs : List Row} → Rows n rs → (rest : List ℕ) → Back n rs rest
-unfolding rowsStatus rowsOf afterRows
-rows-back n small none rest = record { accepted = refl; read = refl; after = refl }
+unfolding rowsStatus items
+rows-back n small none rest = record { accepted = refl; read = refl }
 rows-back n small (one {r = r} {rs = rs} s g) rest =
     let t : List ℕ = joined rowField rs ++ rest in
     let b = rows-back n small g rest in
@@ -43,38 +42,26 @@ rows-back n small (one {r = r} {rs = rs} s g) rest =
     record {
       accepted = rw (e, row-accepted n r s t small, row-after n r s t) (b .accepted);
       read = rw (e, row-read n r s t, row-after n r s t, b .read);
-      after = rw e (ap (afterRows n (length rs)) (row-after n r s t) ∙ b .after);
     }
 
 -- ---- rows that were read
 
 pub rows-sound : (n m : ℕ) (s : List ℕ) → rowsStatus n m s ≡ Accepted → Rows n (rowsOf n m s)
-unfolding rowsStatus rowsOf
+unfolding rowsStatus items
 rows-sound n zero s e = none
 rows-sound n (suc m) s e =
     let w = first-accepted (rowStatus n s) (rowsStatus n m (afterField (rowLength n) s)) e in
     one (row-sound n s (w .0)) (rows-sound n m (afterField (rowLength n) s) (w .1))
 
 pub rows-same : (n m : ℕ) (s : List ℕ) → rowsStatus n m s ≡ Accepted → Bytes s → joined rowField (rowsOf n m s) ++ afterRows n m s ≡ s
-unfolding rowsStatus rowsOf afterRows
-rows-same n zero s e bs = refl
+unfolding rowsStatus items
+rows-same n zero s e bs = rw (zero-mul (rowSize n))
 rows-same n (suc m) s e bs =
     let w = first-accepted (rowStatus n s) (rowsStatus n m (afterField (rowLength n) s)) e in
     let s' : List ℕ = afterField (rowLength n) s in
-    append-assoc (rowField (rowOf n (valueOf s))) (joined rowField (rowsOf n m s')) (afterRows n m s')
-    ∙ rw (rows-same n m s' (w .1) (bytes-drop (rowSize n) bs)) (row-same n s (w .0) bs)
-
-pub length-rows : (n m : ℕ) (s : List ℕ) → length (rowsOf n m s) ≡ m
-unfolding rowsOf
-length-rows n zero s = refl
-length-rows n (suc m) s = ap suc (length-rows n m (afterField (rowLength n) s))
-
-pub after-rows : (n m : ℕ) (s : List ℕ) → afterRows n m s ≡ drop (m * rowSize n) s
-unfolding afterRows
-after-rows n zero s = rw (zero-mul (rowSize n))
-after-rows n (suc m) s =
-    let k : rowSize n + m * rowSize n ≡ suc m * rowSize n = omega (arith, suc-mul m (rowSize n)) in
-    after-rows n m (afterField (rowLength n) s) ∙ drop-drop (m * rowSize n) (rowSize n) s ∙ rw k
+    let k : suc m * rowSize n ≡ rowSize n + m * rowSize n = omega (arith, suc-mul m (rowSize n)) in
+    append-assoc (rowField (rowAt n s)) (joined rowField (rowsOf n m s')) (afterRows n (suc m) s)
+    ∙ rw (k, ← (drop-drop (m * rowSize n) (rowSize n) s), rows-same n m s' (w .1) (bytes-drop (rowSize n) bs)) (row-same n s (w .0) bs)
 
 -- ---- the figures of rows, row after row
 
@@ -90,12 +77,32 @@ module _ {X : Type 0} (n : ℕ) (f : Row → List X) where
   joined-fine p h (one {r = r} {rs = rs} s g) = all-append p (f r) (joined f rs) (h r s) (joined-fine p h g)
 
 pub length-row-fields : (n : ℕ) {rs : List Row} → Rows n rs → length (joined rowField rs) ≡ length rs * rowSize n
-length-row-fields n g = joined-length n rowField (rowSize n) (λ r s. length-field rowTag (rowBytes r) ∙ rw (length-row n r s)) g
+length-row-fields n g =
+    joined-length n rowField (rowSize n) (λ r s. length-row-field n r (s .coefficient-count) (s .tolerance-count) (s .right-count) (s .right-tolerance-count)) g
 
-pub rows-fit : (n : ℕ) → n ≤ mostTanks → n * rowSize n ≤ 344
-rows-fit n small = let k : rowSize n ≤ 43 = omega arith in mul-le-mul small k
+-- what n × n figures and n rows take at most
+
+pub square-fits : (n : ℕ) → n ≤ mostTanks → n * n ≤ mostTanks * mostTanks
+square-fits n small = mul-le-mul small small
+
+pub rows-fit : (n : ℕ) → n ≤ mostTanks → n * rowSize n ≤ mostTanks * rowSize mostTanks
+rows-fit n small = let k : rowSize n ≤ rowSize mostTanks = omega arith in mul-le-mul small k
+
+pub rows-after : (n : ℕ) {rs : List Row} → Rows n rs → (rest : List ℕ) → afterRows n (length rs) (joined rowField rs ++ rest) ≡ rest
+rows-after n {rs} g rest = drop-at (joined rowField rs) rest (length rs * rowSize n) (length-row-fields n g)
 
 -- ---- rows out of lists that stand row after row
+
+-- where the next row's figures stand
+pub record NextRow (n i from : ℕ) (a : List ℤ) (t : List ℕ) (b : List ℤ) (f : List ℕ) : Type 0 where
+  pub small : n ≤ mostTanks
+  pub in-a : from + n ≤ length a
+  pub in-t : from + n ≤ length t
+  pub in-b : i + 1 ≤ length b
+  pub in-f : i + 1 ≤ length f
+
+pub next-row : {n i from : ℕ} {a : List ℤ} {t : List ℕ} {b : List ℤ} {f : List ℕ} → RowsRoom n a t b f → from ≡ i * n → i < n → NextRow n i from a t b f
+next-row {n} {i} m e h = omega (arith, m, mul-le-mul-right n h, suc-mul i n)
 
 chunk-length : {X : Type 0} (n m : ℕ) (l : List X) → length l ≡ suc m * n → (length (take n l) ≡ n) × (length (drop n l) ≡ m * n)
 chunk-length n m l e =

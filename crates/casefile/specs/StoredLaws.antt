@@ -1,33 +1,55 @@
 -- What a padded list holds: at every place, past the end too, what the list holds there, with zero past its end.
--- Assumes nothing.
-use mathlib.Core.Path.{_≡_, refl, _∙_}
+-- And what a reading tells of the bytes that were read. Assumes nothing.
+use mathlib.Core.Path.{_≡_, refl, ap, _∙_}
 use mathlib.Core.List.{List, [], _∷_, _++_}
 use Prim.Native.Nat.{ℕ, zero, suc, _+_, _≤_}
-use lib.ListN.{length, getD, take, drop, replicate, length-replicate}
-use Rattle.buffer.specs.Laws.{length-onto, take-onto}
-use Rattle.casefile.specs.Decode.{padded}
+use lib.ListN.{length, getD, take, drop, replicate}
+use lib.Seq.{take-at, getD-drop}
+use Rattle.integers.specs.Tables.{same-at}
+use Rattle.buffer.specs.Laws.{holds}
+use Rattle.outcome.specs.declared.Refusal.{Refusal}
+use Rattle.outcome.specs.declared.Status.the-variants.{Accepted, Refused}
+use Rattle.outcome.specs.Laws.{not-both}
+use Rattle.casefile.specs.declared.Case.{Case as Stored}
+use Rattle.casefile.specs.declared.Reading.{Reading}
+use Rattle.casefile.specs.Case.{Case}
+use Rattle.casefile.specs.Decode.{Decoded, accepted, refused, padded, stored, reading}
 
 module _ {X : Type 0} (z : X) where
-  zeros : (k i : ℕ) → getD (replicate k z) i z ≡ z
-  zeros zero i = refl
-  zeros (suc k) zero = refl
-  zeros (suc k) (suc i) = zeros k i
-
-  drop-zeros : (n k i : ℕ) → getD (drop n (replicate k z)) i z ≡ z
-  drop-zeros zero k i = zeros k i
-  drop-zeros (suc n) zero i = refl
-  drop-zeros (suc n) (suc k) i = drop-zeros n k i
-
   behind : (l b : List X) → ((i : ℕ) → getD b i z ≡ z) → (i : ℕ) → getD (l ++ b) i z ≡ getD l i z
   behind [] b h i = h i
   behind (x ∷ l) b h zero = refl
   behind (x ∷ l) b h (suc i) = behind l b h i
 
   pub getD-padded : (k : ℕ) (l : List X) (i : ℕ) → getD (padded k z l) i z ≡ getD l i z
-  getD-padded k l i = behind l (drop (length l) (replicate k z)) (drop-zeros (length l) k) i
+  getD-padded k l i =
+      behind l (drop (length l) (replicate k z)) (λ j. getD-drop (length l) (replicate k z) j z ∙ same-at z k (length l + j)) i
 
-  pub length-padded : (k : ℕ) (l : List X) → length l ≤ k → length (padded k z l) ≡ k
-  length-padded k l h = length-onto l (replicate k z) (rw (length-replicate k z) h) ∙ length-replicate k z
+  -- the list's own m figures stand at the front
+  module _ (k m : ℕ) (l : List X) (e : length l ≡ m) where
+    pub padded-holds : m ≤ length (padded k z l)
+    padded-holds = holds m l (replicate k z) e
 
-  pub take-padded : (k : ℕ) (l : List X) → take (length l) (padded k z l) ≡ l
-  take-padded k l = take-onto l (replicate k z)
+    pub take-padded : take m (padded k z l) ≡ l
+    take-padded = take-at l (drop (length l) (replicate k z)) m e
+
+-- ---- what a reading tells
+
+-- the case that was read, and how it is held
+pub record Whole (d : Decoded) (held-case : Stored) : Type 0 where
+  pub figures : Case
+  pub decoded : d ≡ accepted figures
+  pub held : held-case ≡ stored figures
+
+pub reading-accepted : (d : Decoded) (r : Reading) → r ≡ reading d → r .status ≡ Accepted → Whole d (r .case)
+unfolding reading
+reading-accepted (accepted c) r e h = record { figures = c; decoded = refl; held = ap (λ r. r .case) e }
+reading-accepted (refused q) r e h = not-both (r .status) q (ap (λ r. r .status) e) h
+
+pub reading-refused : (d : Decoded) (r : Reading) → r ≡ reading d → (q : Refusal) → r .status ≡ Refused q → d ≡ refused q
+unfolding reading
+reading-refused (accepted c) r e q h = not-both (r .status) q h (ap (λ r. r .status) e)
+reading-refused (refused x) r e q h =
+    let t : r .status ≡ Refused x = ap (λ r. r .status) e in
+    let s : x ≡ q = cc in
+    ap refused s

@@ -3,7 +3,7 @@
 use mathlib.Core.Path.{_≡_, refl, sym, ap, _∙_}
 use mathlib.Core.List.{List, [], _∷_, _++_, append-nil}
 use mathlib.Core.Bool.{true}
-use Prim.Native.Nat.{ℕ, zero, suc, _+_, _*_, _≤_}
+use Prim.Native.Nat.{ℕ, zero, suc, _+_, _≤_}
 use native.Mathlib.Omega.{arith}
 use native.Mathlib.Nat.{le-of-eq, add-zero}
 use lib.ListN.{length, take, drop, drop-of-length-le}
@@ -12,17 +12,23 @@ use lib.IntN.{ℤ}
 use borrow.Author.Tests.{eqb-true}
 use Rattle.outcome.specs.declared.Refusal.the-variants.{OutsideLimits, TrailingBytes}
 use Rattle.outcome.specs.declared.Status.the-variants.{Accepted}
-use Rattle.outcome.specs.Laws.{check-accepted, first-accepted}
+use Rattle.outcome.specs.Laws.{first-accepted, first-check}
 use Rattle.bigendian.specs.Number.{be, bytes}
 use Rattle.bigendian.specs.NumberLaws.{Bytes, bytes-drop}
+use Rattle.buffer.specs.Buffer.{joined}
 use Rattle.figures.specs.Figures.{within, figures, spread, all}
-use Rattle.figures.specs.FigureLaws.{length-figures, length-spread, figures-spread, spread-figures}
-use Rattle.fields.specs.Field.{headerSize, field, valueOf, fieldStatus}
+use Rattle.figures.specs.FigureLaws.{length-items, length-spread, figures-spread, spread-figures}
+use Rattle.fields.specs.Field.{headerSize, field, endTag, endLength, endSize, endField, valueOf, fieldStatus}
 use Rattle.fields.specs.FieldLaws.{length-field, field-value, field-after, field-accepted, value-room, field-is}
-use Rattle.casefile.specs.Case.{mostTanks, trialLimit, trialCount}
-use Rattle.casefile.specs.Layout.{joined, trialTag, trialKind, trialLength, trialSize, endTag, endLength, trialFields}
+use Rattle.casefile.specs.Case.{mostTanks, trialLimit, whereBrought, trialCount}
+use Rattle.casefile.specs.Layout.{trialTag, trialKind, trialLength, trialSize, trialFields}
 use Rattle.casefile.specs.Decode.{trialStatus, trialOf, afterTrial, endStatus}
 use Rattle.casefile.specs.KindLaws.{trial-lawful}
+
+-- what a trial brings is at most that
+pub brought-most : (k m : ℕ) → whereBrought k m 0 ≤ m
+brought-most zero m = omega arith
+brought-most (suc k) m = omega arith
 
 -- the bytes of the trial's field, or none
 abbrev pub trialBytes : ℕ → List ℤ → List ℕ
@@ -42,7 +48,7 @@ pub record TrialBack (k n : ℕ) (y : List ℤ) (rest : List ℕ) : Type 0 where
 pub trial-back : (k n : ℕ) (y : List ℤ) (rest : List ℕ) → n ≤ mostTanks → length y ≡ trialCount k n → all (within trialLimit) y ≡ true → TrialBack k n y rest
 unfolding trialStatus trialOf afterTrial
 trial-back zero n y rest small e f =
-    let l : length (spread trialKind y) ≡ 4 * n = length-spread trialKind y ∙ rw e in
+    let l : length (spread trialKind y) ≡ trialLength n = length-spread trialKind y ∙ rw e in
     let value : figures trialKind n (valueOf (field trialTag (spread trialKind y) ++ rest)) ≡ y =
     rw (field-value trialTag (spread trialKind y) rest) (figures-spread trialKind _ trial-lawful n y rest e f) in
     let q = append-nil (field trialTag (spread trialKind y)) in
@@ -63,8 +69,7 @@ pub record TrialRead (k n : ℕ) (s : List ℕ) : Type 0 where
 pub trial-read : (k n : ℕ) (s : List ℕ) → trialStatus k n s ≡ Accepted → TrialRead k n s
 unfolding trialStatus trialOf all
 trial-read zero n s e =
-    let w = first-accepted (fieldStatus trialTag (trialLength n) s) _ e in
-    record { count = length-figures trialKind n (valueOf s); fine = check-accepted _ OutsideLimits (w .1) }
+    record { count = length-items _ _ n (valueOf s); fine = first-check (fieldStatus trialTag (trialLength n) s) _ OutsideLimits e .1 }
 trial-read (suc k) n s e = record { count = refl; fine = refl }
 
 pub trial-same : (k n : ℕ) (s : List ℕ) → trialStatus k n s ≡ Accepted → Bytes s → trialBytes k (trialOf k n s) ++ afterTrial k n s ≡ s
@@ -72,9 +77,9 @@ unfolding trialStatus trialOf afterTrial
 trial-same zero n s e bs =
     let w = first-accepted (fieldStatus trialTag (trialLength n) s) _ e in
     let g = spread-figures trialKind _ trial-lawful n (valueOf s) (bytes-drop headerSize bs) (value-room trialTag (trialLength n) s (w .0)) in
-    let l : length (spread trialKind (figures trialKind n (valueOf s))) ≡ 4 * n = length-spread trialKind (figures trialKind n (valueOf s)) ∙ rw (length-figures trialKind n (valueOf s)) in
+    let l : length (spread trialKind (figures trialKind n (valueOf s))) ≡ trialLength n = length-spread trialKind (figures trialKind n (valueOf s)) ∙ rw (length-items _ _ n (valueOf s)) in
     let t : spread trialKind (figures trialKind n (valueOf s)) ≡ take (trialLength n) (valueOf s) =
-    sym (take-at (spread trialKind (figures trialKind n (valueOf s))) (drop (4 * n) (valueOf s)) (4 * n) l) ∙ ap (take (4 * n)) g in
+    sym (take-at (spread trialKind (figures trialKind n (valueOf s))) (drop (trialLength n) (valueOf s)) (trialLength n) l) ∙ ap (take (trialLength n)) g in
     rw (append-nil, t) (field-is trialTag (trialLength n) s (w .0) bs)
 trial-same (suc k) n s e bs = refl
 
@@ -85,15 +90,15 @@ after-trial (suc k) n s at = rw (add-zero at)
 
 -- ---- the end
 
-pub end-back : endStatus (field endTag []) ≡ Accepted
+pub end-back : endStatus endField ≡ Accepted
 unfolding endStatus fieldStatus field bytes be
 end-back = refl
 
-pub end-same : (s : List ℕ) → endStatus s ≡ Accepted → Bytes s → field endTag [] ≡ s
+pub end-same : (s : List ℕ) → endStatus s ≡ Accepted → Bytes s → endField ≡ s
 unfolding endStatus
 end-same s e bs =
-    let w = first-accepted (fieldStatus endTag endLength s) _ e in
-    let l : length s ≡ 3 = eqb-true _ _ (check-accepted _ TrailingBytes (w .1)) in
-    let d : drop 3 s ≡ [] = drop-of-length-le s (le-of-eq l) in
-    let f : field endTag [] ++ drop 3 s ≡ s = field-is endTag endLength s (w .0) bs in
-    sym (append-nil (field endTag [])) ∙ (rw d at f)
+    let w = first-check (fieldStatus endTag endLength s) _ TrailingBytes e in
+    let l : length s ≡ endSize = eqb-true _ _ (w .1) in
+    let d : drop endSize s ≡ [] = drop-of-length-le s (le-of-eq l) in
+    let f : endField ++ drop endSize s ≡ s = field-is endTag endLength s (w .0) bs in
+    sym (append-nil endField) ∙ (rw d at f)

@@ -1,9 +1,8 @@
--- What writing a case into a buffer answers, and what it leaves there.
+-- What a call that writes into a buffer answers and leaves there, and so the writing of a case.
 use Prim.Native.Nat.{ℕ}
 use mathlib.Core.List.{List}
 use lib.ListN.{length}
 use lib.Dec.{leb}
-use lib.IntN.{ℤ}
 use Rattle.outcome.specs.declared.Refusal.the-variants.{BufferTooShort}
 use Rattle.outcome.specs.declared.Outcome.{Outcome}
 use Rattle.outcome.specs.declared.Outcome.the-variants.{Count, Refused as RefusedBy}
@@ -14,36 +13,27 @@ use Rattle.buffer.specs.Buffer.{onto}
 use Rattle.casefile.specs.Case.{Case, caseStatus}
 use Rattle.casefile.specs.Layout.{encode, longestCase}
 
--- the case that a caller gives figure by figure
-abbrev pub given : ℕ → ℕ → ℕ → List ℤ → List ℕ → List ℤ → List ℕ → List ℤ → Case
-given n exponent rounds a t b f y =
-    record {
-      n = n;
-      exponent = exponent;
-      rounds = rounds;
-      coefficients = a;
-      tolerances = t;
-      right-sides = b;
-      right-tolerances = f;
-      trial = y;
-    }
-
--- "It refuses with 1 a buffer shorter than 388 bytes", and then as a case is refused
-unfoldable pub writeStatus : Case → ℕ → Status
-writeStatus c room = first (check (leb longestCase room) BufferTooShort) (caseStatus c)
-
 -- the answer, and what the buffer holds
 pub record Written : Type 0 where
   pub outcome : Outcome
   pub buffer : List ℕ
 
--- "returns the case's length", "Bytes beyond the case stay untouched"; "Any refusal .. changes no byte"
-abbrev pub writtenBy : Status → Case → List ℕ → Written
-writtenBy Accepted c out = record { outcome = Count (length (encode c)); buffer = onto (encode c) out }
-writtenBy (Refused r) c out = record { outcome = RefusedBy r; buffer = out }
+-- bytes filed at a buffer's front: their length, and the bytes beyond them as they were; "Any refusal .. returns its number and changes no byte"
+abbrev pub filed : Status → List ℕ → List ℕ → Written
+filed Accepted bytes out = record { outcome = Count (length bytes); buffer = onto bytes out }
+filed (Refused r) bytes out = record { outcome = RefusedBy r; buffer = out }
 
+-- refusal 1 of a buffer that is shorter than the room asked, "checked once", and then as it goes on
+abbrev pub inRoom : ℕ → ℕ → Status → Status
+inRoom asked room next = first (check (leb asked room) BufferTooShort) next
+
+-- "It refuses with 1 a buffer shorter than 388 bytes", and then as a case is refused
+unfoldable pub writeStatus : Case → ℕ → Status
+writeStatus c room = inRoom longestCase room (caseStatus c)
+
+-- "returns the case's length", "Bytes beyond the case stay untouched"
 unfoldable pub write : Case → List ℕ → Written
-write c out = writtenBy (writeStatus c (length out)) c out
+write c out = filed (writeStatus c (length out)) (encode c) out
 
 -- a call's answer and its buffer, as one
 abbrev pub leaves : Outcome → List ℕ → Written

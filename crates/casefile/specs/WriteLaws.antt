@@ -1,61 +1,91 @@
--- Demand 2's round trip, over what the writer and the reader promise: what was written is read back as what was meant,
--- and what was read and is written again has its old bytes. Assumes nothing.
+-- What a call that files bytes in a buffer tells; and demand 2's round trip, over what the writer and the reader promise: what was written is read
+-- back as what was meant, and what was read and is written again has its old bytes. Assumes nothing.
 use mathlib.Core.Path.{_≡_, refl}
 use mathlib.Core.List.{List}
-use Prim.Native.Nat.{ℕ, _≤_}
+use Prim.Native.Nat.{ℕ, _≤_, _<_}
 use native.Mathlib.Omega.{arith}
 use lib.ListN.{length, take}
 use lib.Dec.{leb}
-use borrow.Author.Tests.{le-leb, leb-true}
+use borrow.Author.Tests.{le-leb, lt-leb, leb-true}
+use Rattle.outcome.specs.declared.Refusal.{Refusal}
 use Rattle.outcome.specs.declared.Refusal.the-variants.{BufferTooShort}
-use Rattle.outcome.specs.declared.Outcome.the-variants.{Count}
+use Rattle.outcome.specs.declared.Outcome.the-variants.{Count, Refused as RefusedBy}
 use Rattle.outcome.specs.declared.Status.{Status}
 use Rattle.outcome.specs.declared.Status.the-variants.{Accepted, Refused}
 use Rattle.outcome.specs.Outcome.{check}
-use Rattle.outcome.specs.Laws.{check-accepted, first-accepted}
+use Rattle.outcome.specs.Laws.{no-count, check-accepted, first-accepted}
 use Rattle.buffer.specs.Buffer.{onto}
 use Rattle.bigendian.specs.NumberLaws.{Bytes}
 use Rattle.buffer.specs.Laws.{length-onto, take-onto}
 use Rattle.casefile.specs.Case.{Case, caseStatus}
 use Rattle.casefile.specs.Layout.{longestCase, encode}
 use Rattle.casefile.specs.Decode.{accepted, decode}
-use Rattle.casefile.specs.Write.{writeStatus, writtenBy, write}
+use Rattle.casefile.specs.Write.{filed, inRoom, writeStatus, write, leaves}
 use Rattle.casefile.specs.CaseLaws.{decode-encode, encode-decode, decode-fine, longest}
 
-pub write-accepted : (c : Case) (room : ℕ) → writeStatus c room ≡ Accepted → (longestCase ≤ room) × (caseStatus c ≡ Accepted)
-unfolding writeStatus
-write-accepted c room e =
-    let w = first-accepted (check (leb longestCase room) BufferTooShort) (caseStatus c) e in
-    (leb-true longestCase room (check-accepted _ BufferTooShort (w .0)), w .1)
+-- ---- what is filed in a buffer
 
--- a count comes only where nothing is refused
-pub counts : (c : Case) (out : List ℕ) (m : ℕ) → write c out .outcome ≡ Count m
-    → (writeStatus c (length out) ≡ Accepted) × (m ≡ length (encode c)) × (write c out .buffer ≡ onto (encode c) out)
-unfolding write
-counts c out m e = go (writeStatus c (length out)) refl e
-  where
-    go : (t : Status) → writeStatus c (length out) ≡ t → writtenBy t c out .outcome ≡ Count m
-        → (writeStatus c (length out) ≡ Accepted) × (m ≡ length (encode c)) × (writtenBy (writeStatus c (length out)) c out .buffer ≡ onto (encode c) out)
-    go Accepted h q = let w : m ≡ length (encode c) = cc in (h, w, rw h)
-    go (Refused r) h q = let z : _≡_ {A = ℕ} 0 1 = cc in absurd (omega arith)
+-- a count comes only where nothing is refused, and is that of the bytes at the buffer's front
+pub record Filed (t : Status) (bytes out : List ℕ) (m : ℕ) : Type 0 where
+  pub accepted : t ≡ Accepted
+  pub count : m ≡ length bytes
+  pub buffer : filed t bytes out .buffer ≡ onto bytes out
+  pub front : take m (filed t bytes out .buffer) ≡ bytes
 
--- the count is within the buffer
-pub count-fits : (c : Case) (out : List ℕ) (m : ℕ) → write c out .outcome ≡ Count m → m ≤ length (write c out .buffer)
-count-fits c out m e =
-    let w = counts c out m e in
-    let a = write-accepted c (length out) (w .0) in
-    let l : length (encode c) ≤ longestCase = longest c (a .1) in
-    rw (w .2, w .1, length-onto (encode c) out (omega (arith, a .0))) (omega (arith, a .0))
+pub filed-count : (t : Status) (bytes out : List ℕ) (m : ℕ) → filed t bytes out .outcome ≡ Count m → Filed t bytes out m
+filed-count Accepted bytes out m e =
+    let q : m ≡ length bytes = cc in
+    record { accepted = refl; count = q; buffer = refl; front = rw q (take-onto bytes out) }
+filed-count (Refused r) bytes out m e = no-count r m e
 
--- what the writer wrote into any buffer is read back as what was meant
-pub written-read : (c : Case) (out : List ℕ) (m : ℕ) → write c out .outcome ≡ Count m → decode (take m (write c out .buffer)) ≡ accepted c
-written-read c out m e =
-    let w = counts c out m e in
-    rw (w .2, w .1, take-onto (encode c) out) (decode-encode c (write-accepted c (length out) (w .0) .1))
+module _ (asked : ℕ) (next : Status) where
+  pub in-room : (room : ℕ) → inRoom asked room next ≡ Accepted → (asked ≤ room) × (next ≡ Accepted)
+  in-room room e =
+      let w = first-accepted (check (leb asked room) BufferTooShort) next e in
+      (leb-true asked room (check-accepted _ BufferTooShort (w .0)), w .1)
+
+  -- the three ways through a call that tests the room and then a status
+  module _ (bytes out : List ℕ) where
+    pub filed-short : length out < asked → leaves (RefusedBy BufferTooShort) out ≡ filed (inRoom asked (length out) next) bytes out
+    filed-short h = rw (lt-leb asked (length out) h)
+
+    pub filed-refused : (r : Refusal) → asked ≤ length out → next ≡ Refused r → leaves (RefusedBy r) out ≡ filed (inRoom asked (length out) next) bytes out
+    filed-refused r h e = rw (le-leb asked (length out) h, e)
+
+    pub filed-whole : (m : ℕ) (exit : List ℕ) → asked ≤ length out → next ≡ Accepted → m ≡ length bytes → exit ≡ onto bytes out
+        → leaves (Count m) exit ≡ filed (inRoom asked (length out) next) bytes out
+    filed-whole m exit h e k x = rw (le-leb asked (length out) h, e, k, x)
+
+-- ---- written, then read
+
+module _ (c : Case) (out : List ℕ) (m : ℕ) (e : write c out .outcome ≡ Count m) where
+  written : Filed (writeStatus c (length out)) (encode c) out m
+  unfolding write
+  written = filed-count (writeStatus c (length out)) (encode c) out m e
+
+  fine : (longestCase ≤ length out) × (caseStatus c ≡ Accepted)
+  unfolding writeStatus
+  fine = in-room longestCase (caseStatus c) (length out) (written .accepted)
+
+  -- the count is within the longest case and the buffer
+  pub count-le : m ≤ longestCase
+  count-le = rw (written .count) (longest c (fine .1))
+
+  pub count-fits : m ≤ length (write c out .buffer)
+  unfolding write
+  count-fits =
+      let l : length (encode c) ≤ length out = omega (arith, written .count, count-le, fine .0) in
+      rw (written .buffer, written .count, length-onto (encode c) out l) l
+
+  -- what the writer wrote into any buffer is read back as what was meant
+  pub written-read : decode (take m (write c out .buffer)) ≡ accepted c
+  unfolding write
+  written-read = rw (written .front) (decode-encode c (fine .1))
+
+-- ---- read, then written
 
 -- what was read and is written again has its old bytes, and those beyond them stay
-pub read-written : (s : List ℕ) (c : Case) (out : List ℕ) → Bytes s → decode s ≡ accepted c → longestCase ≤ length out
-    → write c out ≡ record { outcome = Count (length s); buffer = onto s out }
+pub read-written : (s : List ℕ) (c : Case) (out : List ℕ) → Bytes s → decode s ≡ accepted c
+    → write c out ≡ filed (inRoom longestCase (length out) Accepted) s out
 unfolding write writeStatus
-read-written s c out bs e h =
-    rw (le-leb longestCase (length out) h, decode-fine s c e, encode-decode s c bs e)
+read-written s c out bs e = rw (decode-fine s c e, encode-decode s c bs e)

@@ -2,7 +2,7 @@
 ghost use mathlib.Core.Path.{_≡_};
 ghost use Prim.Native.Nat.{_≤_};
 ghost use Rattle.casefile.specs.Case.{mostTanks, headFine, trialCount};
-ghost use Rattle.casefile.specs.Layout.{rowLength, rowSize, rowsEnd, trialLength, trialSize};
+ghost use Rattle.casefile.specs.Layout.{rowLength, rowSize, tolerancesAt, rightSideAt, rightToleranceAt, rowsEnd, trialLength, trialSize};
 use outcome::Status;
 
 // Document 01, "Figures".
@@ -29,22 +29,18 @@ pub const ROW_TAG: u8 = 2;
 
 pub const TRIAL_TAG: u8 = 3;
 
-pub const END_TAG: u8 = 255;
-
 pub const HEAD_LENGTH: usize = 3;
-
-pub const END_LENGTH: usize = 0;
 
 pub const LONGEST_CASE: usize = 388;
 
 // Where n, the exponent, the rounds and the first row stand.
-pub const N_AT: usize = 3;
+pub const N_AT: usize = fields::HEADER_SIZE;
 
-pub const EXPONENT_AT: usize = 4;
+pub const EXPONENT_AT: usize = N_AT + 1;
 
-pub const ROUNDS_AT: usize = 5;
+pub const ROUNDS_AT: usize = EXPONENT_AT + 1;
 
-pub const ROWS_AT: usize = 6;
+pub const ROWS_AT: usize = fields::HEADER_SIZE + HEAD_LENGTH;
 
 // The figures of a case: n, the exponent e, the rounds K; coefficients and tolerances row after row, row i from i * n on;
 // the right sides, their tolerances and the trial. Places past the used ones are zero.
@@ -102,6 +98,30 @@ pub fn row_size(n: usize) -> usize
     ensures { λ r. ⌜ r ≡ rowSize n ⌝ }
 {
     fields::HEADER_SIZE + row_length(n)
+}
+
+// Where the tolerances stand in a row's value: behind n coefficients of two bytes.
+pub fn tolerances_at(n: usize) -> usize
+    requires { ⌜ n ≤ mostTanks ⌝ }
+    ensures { λ r. ⌜ r ≡ tolerancesAt n ⌝ }
+{
+    2 * n
+}
+
+// Where the right side stands: behind n tolerances of two bytes.
+pub fn right_side_at(n: usize) -> usize
+    requires { ⌜ n ≤ mostTanks ⌝ }
+    ensures { λ r. ⌜ r ≡ rightSideAt n ⌝ }
+{
+    tolerances_at(n) + n * 2
+}
+
+// Where the right side's tolerance stands: behind its four bytes.
+pub fn right_tolerance_at(n: usize) -> usize
+    requires { ⌜ n ≤ mostTanks ⌝ }
+    ensures { λ r. ⌜ r ≡ rightToleranceAt n ⌝ }
+{
+    right_side_at(n) + 4
 }
 
 // Where the rows end, and what follows them begins.

@@ -1,13 +1,12 @@
 // Words and decimal numbers as bytes in a buffer. Each writer writes from the place `at` on, changes nothing else, and returns the place
 // after what it wrote.
 use integers::magnitude;
+use integers::power_of_ten;
 ghost use mathlib.Core.Path.{_≡_};
-ghost use Prim.Native.Nat.{_^_, _<_};
+ghost use Prim.Native.Nat.{_<_};
 ghost use lib.ListN.{length};
 ghost use Rattle.decimal.specs.Buffer.{Room, Wrote};
 ghost use Rattle.decimal.specs.Decimal.{digits, «last-digits», minus, signed, fraction, «fixed-point»};
-
-const POWERS_OF_TEN: [u64; 4] = [1, 10, 100, 1000];
 
 // Copies the bytes of a word.
 pub fn write_bytes(word: &[u8], at: usize, out: &mut [u8]) -> usize
@@ -93,20 +92,13 @@ fn write_fraction(x: u64, e: usize, at: usize, out: &mut [u8]) -> usize
     write_last_digits(x, e, at + 1, out)
 }
 
-fn power_of_ten(e: usize) -> u64
-    requires { ⌜ e < 4 ⌝ }
-    ensures { λ r. ⌜ r ≡ 10 ^ e ⌝ }
-{
-    POWERS_OF_TEN[e]
-}
-
 // x / 10^e: its sign, the whole part, and for e above 0 a point and e digits.
 pub fn write_fixed_point(x: i64, e: usize, at: usize, out: &mut [u8]) -> usize
     requires { ⌜ (e < 4) × Room (fixed-point e x) at (now out) ⌝ }
     ensures { λ r. ⌜ Wrote (fixed-point e x) at (now (out .entry)) r (now (out .exit)) ⌝ }
 {
     let size = magnitude(x);
-    let unit = power_of_ten(e);
+    let unit = power_of_ten(e) as u64;
     let after_sign = write_minus(x, at, out);
     let after_whole = write_unsigned(size / unit, after_sign, out);
     write_fraction(size % unit, e, after_whole, out)

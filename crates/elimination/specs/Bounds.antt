@@ -3,36 +3,30 @@
 use mathlib.Core.Path.{_≡_, ap}
 use mathlib.Core.List.{List, []}
 use Prim.Native.Nat.{ℕ, _+_, _*_, _-_, _^_, _<_, _≤_}
-use native.Mathlib.Nat.{mul-le-mul, mul-le-mul-right}
 use native.Mathlib.Omega.{arith}
 use lib.ListN.{getD, length}
 use lib.IntN.{ℤ, pos, natAbs, _*ℤ_}
 use lib.Pow.{pow-mono, pow-add, pow-pos}
-use Rattle.integers.specs.Size.{natAbs-*ℤ, natAbs-subℤ}
+use Rattle.integers.specs.Size.{natAbs-subℤ, product-ok}
+use Rattle.integers.specs.Tables.{fill, all-fill, fill-none, Within, AllWithin, within-set}
 use Rattle.rounding.specs.Round.{rnd}
 use Rattle.rounding.specs.Laws.{rnd-le}
-use Rattle.elimination.specs.Matrix.{at, fill, Within, AllWithin}
+use Rattle.elimination.specs.Matrix.{at}
 use Rattle.elimination.specs.Steps.{pivot-row, exchange, multiplier, reduced, eliminated-row, row-below, eliminated-below}
 use Rattle.elimination.specs.Conditions.{bound, Dividing, Ready, Pivoted}
-use Rattle.elimination.specs.Laws.{all-set, all-fill, fill-none, transposed, transposed-cases, transposed-first, exchange-at}
+use Rattle.elimination.specs.Laws.{transposed, transposed-cases, transposed-first, exchange-at}
 use Rattle.elimination.specs.Pivot.{Best, pivot-best, nonzero-in}
 
-pub bound-mono : (i j : ℕ) → i ≤ j → bound i ≤ bound j
-bound-mono i j h = mul-le-mul-right (2 ^ 23) (pow-mono {i = i} {j = j} h)
-
 pub bound-le : (k : ℕ) → k < 8 → bound k ≤ 2 ^ 30
-bound-le k h = omega (arith, bound-mono k 7 (omega arith))
+bound-le k h = omega (arith, pow-mono {i = k} {j = 7} (omega arith))
 
 pub bound-suc : (k : ℕ) → bound (k + 1) ≡ bound k + bound k
 bound-suc k = omega (arith, ap (λ (x : ℕ). x * 2 ^ 23) (pow-add 2 k 1))
 
-pub bound-low : (k : ℕ) → 16384 ≤ bound k
-bound-low k = omega (arith, pow-pos k)
-
 -- ---- a multiplier
 
 pub divided-le : (entry pivot : ℤ) → Dividing entry pivot → natAbs (rnd (pos 16384 *ℤ entry) pivot) ≤ 16384
-divided-le entry pivot h = rnd-le (pos 16384 *ℤ entry) pivot 16384 (omega (arith, h .largest, natAbs-*ℤ (pos 16384) entry))
+divided-le entry pivot h = rnd-le (pos 16384 *ℤ entry) pivot 16384 (product-ok (pos 16384) entry 16384 (natAbs pivot) (omega arith) (h .largest))
 
 -- ---- a row
 
@@ -54,8 +48,7 @@ module _ (top row : List ℤ) (k n : ℕ) (h : Ready top row k n) where
 
   product-in : (j : ℕ) → natAbs (multiplier top row k *ℤ getD top j (pos 0)) ≤ bound k * 16384
   product-in j =
-      rw (natAbs-*ℤ (multiplier top row k) (getD top j (pos 0)))
-      (omega (arith, mul-le-mul multiplier-le (h .top-in j)))
+      omega (arith, product-ok (multiplier top row k) (getD top j (pos 0)) 16384 (bound k) multiplier-le (h .top-in j))
 
   pub product-le : (j : ℕ) → natAbs (multiplier top row k *ℤ getD top j (pos 0)) ≤ 2 ^ 44
   product-le j = omega (arith, product-in j, small)
@@ -79,8 +72,8 @@ module _ (top row : List ℤ) (k n : ℕ) (h : Ready top row k n) where
   row-grows =
       let f = reduced (multiplier top row k) top row in
       rw (bound-suc k)
-      (all-set (λ (z : ℤ). natAbs z ≤ bound k + bound k) (pos 0) (fill f (k + 1) (n - (k + 1)) row) k (multiplier top row k)
-      (omega (arith, multiplier-le, bound-low k))
+      (within-set (fill f (k + 1) (n - (k + 1)) row) k (multiplier top row k)
+      (omega (arith, multiplier-le, pow-pos k))
       (all-fill (λ (z : ℤ). natAbs z ≤ bound k + bound k) (pos 0) f (k + 1) (n - (k + 1)) row
       (λ i p q. reduced-in i)
       (λ j. omega (arith, h .row-in j))))

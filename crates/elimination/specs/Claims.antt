@@ -4,7 +4,8 @@ use mathlib.Core.List.{List}
 use Prim.Native.Nat.{ℕ, _^_, _<_, _≤_}
 use lib.ListN.{getD, length}
 use lib.IntN.{ℤ, pos, natAbs}
-use Rattle.elimination.specs.Matrix.{at, AllWithin}
+use Rattle.integers.specs.Tables.{AllWithin}
+use Rattle.elimination.specs.Matrix.{at}
 use Rattle.elimination.specs.Steps.{after-steps}
 
 -- complete, n rows hold a lower and an upper factor: multipliers of at most 1 in units of 1 / 16,384 below the diagonal, pivots on it that are

@@ -4,7 +4,8 @@ use mathlib.Core.List.{List}
 use Prim.Native.Nat.{ℕ, _*_, _^_, _<_, _≤_}
 use lib.ListN.{getD}
 use lib.IntN.{ℤ, pos, natAbs}
-use Rattle.elimination.specs.Matrix.{at, Within, AllWithin}
+use Rattle.integers.specs.Tables.{Within, AllWithin}
+use Rattle.elimination.specs.Matrix.{at}
 
 -- the bound of the working numbers after k steps: 256 times the least number of 16 bits, doubled k times
 abbrev pub bound : ℕ → ℕ

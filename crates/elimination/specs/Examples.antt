@@ -3,9 +3,9 @@ use mathlib.Core.Path.{_≡_, refl}
 use mathlib.Core.List.{List, [], _∷_, map}
 use Prim.Native.Nat.{ℕ}
 use lib.IntN.{ℤ, pos, _-ℤ_, _*ℤ_}
+use Rattle.integers.specs.Tables.{fill}
 use Rattle.rounding.specs.Half.{rounds-up}
 use Rattle.rounding.specs.Round.{near, rnd}
-use Rattle.elimination.specs.Matrix.{fill}
 use Rattle.elimination.specs.Steps.{start-order, working-row, working, pivot-from, pivot-row}
 use Rattle.elimination.specs.Steps.{eliminated-row, eliminated-below, advanced, after-steps, eliminated}
 use Rattle.elimination.specs.Outcome.{outcome, refusal}

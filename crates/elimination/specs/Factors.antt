@@ -8,15 +8,17 @@ use native.Mathlib.Decide.{ℕ-discrete, decLt}
 use lib.ListN.{getD, set}
 use lib.Seq.{getD-set-other}
 use lib.IntN.{ℤ, pos, natAbs}
-use Rattle.elimination.specs.Matrix.{at, fill, Within, AllWithin}
+use lib.Pow.{pow-mono}
+use Rattle.integers.specs.Tables.{fill, set-here, fill-at, Within, AllWithin}
+use Rattle.elimination.specs.Matrix.{at}
 use Rattle.elimination.specs.Steps.{working, pivot-row, exchange, multiplier, reduced, eliminated-row, row-below, eliminated-below}
 use Rattle.elimination.specs.Steps.{Run, next-pivot, largest, stepped, after-steps, eliminated}
 use Rattle.elimination.specs.Claims.{Factors}
-use Rattle.elimination.specs.Laws.{set-here, fill-at, transposed-cases}
+use Rattle.elimination.specs.Laws.{transposed-cases}
 use Rattle.elimination.specs.Start.{working-in}
 use Rattle.elimination.specs.Pivot.{Best, pivot-best}
 use Rattle.elimination.specs.Conditions.{bound, Ready, Pivoted}
-use Rattle.elimination.specs.Bounds.{bound-le, bound-mono, multiplier-le, ready, step-grows, last-step, exchanged-row, pivoted}
+use Rattle.elimination.specs.Bounds.{bound-le, multiplier-le, ready, step-grows, last-step, exchanged-row, pivoted}
 use Rattle.elimination.specs.Runs.{advanced-cases, steps-few}
 
 -- ---- a row, once k steps are made: its multipliers, and its entry on the diagonal
@@ -136,7 +138,7 @@ grown n a h8 h k l i j =
     omega (
       arith,
       kept n a h8 (working-in n a h) k l .all-in i j,
-      bound-mono (min (after-steps n a k .steps) (n - 1)) k (omega (arith, steps-few n a k)),
+      pow-mono {i = min (after-steps n a k .steps) (n - 1)} {j = k} (omega (arith, steps-few n a k)),
     )
 
 -- ---- after all steps

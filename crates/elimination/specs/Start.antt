@@ -5,11 +5,11 @@ use Prim.Native.Nat.{ℕ, _+_, _*_, _^_, _<_, _≤_}
 use native.Mathlib.Omega.{arith}
 use lib.ListN.{getD, replicate}
 use lib.IntN.{ℤ, pos, natAbs, _*ℤ_}
-use Rattle.integers.specs.Size.{natAbs-*ℤ}
-use Rattle.elimination.specs.Matrix.{at, Within, AllWithin}
+use Rattle.integers.specs.Size.{product-ok}
+use Rattle.integers.specs.Tables.{same-at, all-same-at, fill-at, all-fill, Within, AllWithin, zeros-within, all-zeros-within}
+use Rattle.elimination.specs.Matrix.{at}
 use Rattle.elimination.specs.Steps.{scaled, working-row, working}
 use Rattle.elimination.specs.Conditions.{bound}
-use Rattle.elimination.specs.Laws.{all-same, all-fill, fill-at}
 
 -- a row of numbers that are not used, and rows of them
 abbrev pub zero-row : List ℤ
@@ -19,12 +19,6 @@ abbrev pub zero-rows : List (List ℤ)
 zero-rows = replicate 8 zero-row
 
 -- ---- place by place
-
-zero-at : (j : ℕ) → getD zero-row j (pos 0) ≡ pos 0
-zero-at j = all-same (λ (z : ℤ). z ≡ pos 0) (pos 0) 8 (pos 0) refl refl j
-
-zeros-at : (i j : ℕ) → at zero-rows i j ≡ pos 0
-zeros-at i j = all-same (λ (l : List ℤ). getD l j (pos 0) ≡ pos 0) [] 8 zero-row (zero-at j) refl i
 
 module _ (n : ℕ) (a : List ℤ) (i j : ℕ) where
   -- those that are used
@@ -46,32 +40,26 @@ module _ (n : ℕ) (a : List ℤ) (i j : ℕ) where
       fill-at (λ (l : List ℤ). getD l j (pos 0) ≡ pos 0) [] i (working-row n a) 0 n zero-rows
       (λ x y. absurd (omega arith))
       (λ x y o. refl)
-      (λ o. zeros-at i j)
+      (λ o. all-same-at (pos 0) 8 8 i j)
 
   pub working-unused-column : n ≤ j → at (working n a) i j ≡ pos 0
   unfolding working working-row
   working-unused-column h =
       fill-at (λ (l : List ℤ). getD l j (pos 0) ≡ pos 0) [] i (working-row n a) 0 n zero-rows
-      (λ x y. fill-at (λ (z : ℤ). z ≡ pos 0) (pos 0) j (scaled n a i) 0 n zero-row (λ u v. absurd (omega arith)) (λ u v o. refl) (λ o. zero-at j))
+      (λ x y. fill-at (λ (z : ℤ). z ≡ pos 0) (pos 0) j (scaled n a i) 0 n zero-row (λ u v. absurd (omega arith)) (λ u v o. refl) (λ o. same-at (pos 0) 8 j))
       (λ x y o. refl)
-      (λ o. zeros-at i j)
+      (λ o. all-same-at (pos 0) 8 8 i j)
 
 -- ---- within the bound
-
-pub zero-row-in : Within (bound 0) zero-row
-zero-row-in = all-same (λ (z : ℤ). natAbs z ≤ bound 0) (pos 0) 8 (pos 0) (omega arith) (omega arith)
-
-pub zeros-in : AllWithin (bound 0) zero-rows
-zeros-in = all-same (Within (bound 0)) [] 8 zero-row zero-row-in (λ j. omega arith)
 
 working-row-in : (n : ℕ) (a : List ℤ) (i : ℕ) → Within (2 ^ 15) a → Within (bound 0) (working-row n a i)
 unfolding working-row
 working-row-in n a i h =
     all-fill (λ (z : ℤ). natAbs z ≤ bound 0) (pos 0) (scaled n a i) 0 n _
-    (λ j p q. omega (arith, natAbs-*ℤ (pos 256) (getD a (i * n + j) (pos 0)), h (i * n + j)))
-    zero-row-in
+    (λ j p q. product-ok (pos 256) (getD a (i * n + j) (pos 0)) 256 (2 ^ 15) (omega arith) (h (i * n + j)))
+    (zeros-within 8)
 
 -- coefficients of 16 bits
 pub working-in : (n : ℕ) (a : List ℤ) → Within (2 ^ 15) a → AllWithin (bound 0) (working n a)
 unfolding working
-working-in n a h = all-fill (Within (bound 0)) [] (working-row n a) 0 n _ (λ i p q. working-row-in n a i h) zeros-in
+working-in n a h = all-fill (Within (bound 0)) [] (working-row n a) 0 n _ (λ i p q. working-row-in n a i h) (all-zeros-within 8 8)

@@ -6,9 +6,9 @@ use Prim.Native.Nat.{ℕ, zero, suc, _+_, _*_, _-_}
 use lib.Dec.{ltb, eqb}
 use lib.ListN.{getD, set, replicate}
 use lib.IntN.{ℤ, pos, natAbs, _-ℤ_, _*ℤ_}
-use Rattle.integers.specs.Tables.{table}
+use Rattle.integers.specs.Tables.{table, fill}
 use Rattle.rounding.specs.Round.{rnd}
-use Rattle.elimination.specs.Matrix.{at, fill}
+use Rattle.elimination.specs.Matrix.{at}
 
 -- ---- the start
 

@@ -1,6 +1,6 @@
 -- A field of a file, and what refuses a field that is due at the front of the bytes that are left.
 use Prim.Native.Nat.{ℕ, _+_, _-_}
-use mathlib.Core.List.{List, _∷_, _++_}
+use mathlib.Core.List.{List, [], _∷_, _++_}
 use lib.ListN.{length, getD, take, drop}
 use lib.Dec.{leb, eqb}
 use Rattle.outcome.specs.declared.Refusal.the-variants.{FieldMissing, WrongTag, WrongLength, ValueCutShort}
@@ -17,6 +17,19 @@ headerSize = 3
 
 unfoldable pub field : ℕ → List ℕ → List ℕ
 field tag value = header tag (length value) ++ value
+
+-- document 01, of the case and of the record: "FF, length 0"
+abbrev pub endTag : ℕ
+endTag = 0xFF
+
+abbrev pub endLength : ℕ
+endLength = 0
+
+abbrev pub endSize : ℕ
+endSize = headerSize + endLength
+
+abbrev pub endField : List ℕ
+endField = field endTag []
 
 -- the value of the field at the front of s, with what follows it; and what follows a value of a stated length
 abbrev pub valueOf : List ℕ → List ℕ

@@ -9,10 +9,12 @@ use lib.Seq.{drop-drop, drop-at, drop-cons, sets, sets-eq}
 use lib.Dec.{leb, eqb}
 use borrow.Author.Tests.{le-leb, leb-true, eq-eqb, eqb-true}
 use Rattle.outcome.specs.declared.Refusal.the-variants.{FieldMissing, WrongTag, WrongLength}
+use Rattle.outcome.specs.declared.Status.{Status}
 use Rattle.outcome.specs.declared.Status.the-variants.{Accepted}
 use Rattle.outcome.specs.Outcome.{check}
 use Rattle.outcome.specs.Laws.{check-accepted, first-accepted}
 use Rattle.buffer.specs.Buffer.{onto}
+use Rattle.buffer.specs.Laws.{part, put, then}
 use Rattle.bigendian.specs.Number.{be, bytes}
 use Rattle.bigendian.specs.NumberLaws.{Bytes, be-bytes, length-bytes, bytes-of, bytes-drop}
 use Rattle.fields.specs.Field.{header, headerSize, field, valueOf, afterField, fieldStatus}
@@ -27,6 +29,12 @@ length-field tag v = length-append (header tag (length v)) v ∙ omega (arith, l
 pub field-is-header : (tag : ℕ) (v : List ℕ) (len : ℕ) → length v ≡ len → header tag len ++ v ≡ field tag v
 unfolding field
 field-is-header tag v len e = rw e
+
+-- the value written behind the header
+pub field-written : (tag len : ℕ) (v out x : List ℕ) {y : List ℕ} → length v ≡ len → x ≡ onto (header tag len) out → y ≡ onto v (part x headerSize)
+    → put x headerSize y ≡ onto (field tag v) out
+field-written tag len v out x {y} l e f =
+    then out x (header tag len) v headerSize y e (length-header tag len) f ∙ ap (λ b. onto b out) (field-is-header tag v len l)
 
 -- the value stored byte by byte behind the header
 pub field-stored : (tag : ℕ) (v out l : List ℕ) → headerSize + length v ≤ length l → l ≡ onto (header tag (length v)) out
@@ -56,10 +64,10 @@ module _ (tag : ℕ) (v r : List ℕ) where
       whole : (x y : ℕ) (q : List ℕ) → be (x ∷ y ∷ []) ≡ len → len ≤ length q → fieldStatus tag len (tag ∷ x ∷ y ∷ q) ≡ Accepted
       whole x y q b m =
           rw (
-            le-leb 3 (suc (suc (suc (length q)))) (omega arith),
+            le-leb headerSize (suc (suc (suc (length q)))) (omega arith),
             eq-eqb tag tag refl,
             eq-eqb (be (x ∷ y ∷ [])) len b,
-            le-leb len (suc (suc (suc (length q))) - 3) (omega arith),
+            le-leb len (suc (suc (suc (length q))) - headerSize) (omega arith),
           )
 
 -- ---- a field that is not refused
@@ -76,8 +84,8 @@ module _ (tag len : ℕ) (s : List ℕ) (accepted : fieldStatus tag len s ≡ Ac
       let w1 = first-accepted (check (leb headerSize (length s)) FieldMissing) _ accepted in
       let w2 = first-accepted (check (eqb (getD s 0 0) tag) WrongTag) _ (w1 .1) in
       let w3 = first-accepted (check (eqb (be (take 2 (drop 1 s))) len) WrongLength) _ (w2 .1) in
-      let a : 3 ≤ length s = leb-true 3 (length s) (check-accepted _ _ (w1 .0)) in
-      let b : len ≤ length s - 3 = leb-true len (length s - 3) (check-accepted _ _ (w3 .1)) in
+      let a : headerSize ≤ length s = leb-true headerSize (length s) (check-accepted _ _ (w1 .0)) in
+      let b : len ≤ length s - headerSize = leb-true len (length s - headerSize) (check-accepted _ _ (w3 .1)) in
       record {
         tag-is = eqb-true _ _ (check-accepted _ _ (w2 .0));
         length-is = eqb-true _ _ (check-accepted _ _ (w3 .0));
@@ -97,22 +105,25 @@ module _ (tag len : ℕ) (s : List ℕ) (accepted : fieldStatus tag len s ≡ Ac
       let a : headerSize + len ≤ length s = w .room in
       let d : 2 ≤ length (drop 1 s) = simp length-drop (omega arith) in
       let b : bytes 2 len ≡ take 2 (drop 1 s) = rw (← (w .length-is)) (bytes-of 2 (drop 1 s) (bytes-drop 1 bs) d) in
-      let l : length (take len (drop 3 s)) ≡ len = simp (length-take, length-drop) (omega arith) in
+      let l : length (take len (valueOf s)) ≡ len = simp (length-take, length-drop) (omega arith) in
       let c : s ≡ getD s 0 0 ∷ drop 1 s = drop-cons s 0 0 (omega arith) in
       rw (
         l,
         b,
-        append-assoc (take 2 (drop 1 s)) (take len (drop 3 s)) (drop (3 + len) s),
-        ← (drop-drop len 3 s),
-        take-append-drop len (drop 3 s),
+        append-assoc (take 2 (drop 1 s)) (take len (valueOf s)) (afterField len s),
+        ← (drop-drop len headerSize s),
+        take-append-drop len (valueOf s),
         ← (drop-drop 2 1 s),
         take-append-drop 2 (drop 1 s),
         ← (w .tag-is),
       )
       (sym c)
 
--- where it stands in the whole input
-pub field-room-at : (tag len : ℕ) (s : List ℕ) (at : ℕ) → fieldStatus tag len (drop at s) ≡ Accepted → at + (headerSize + len) ≤ length s
-field-room-at tag len s at e =
-    let r : headerSize + len ≤ length s - at = rw (length-drop at s) at (field-room tag len (drop at s) e) in
+-- where it stands in the whole input; x is what was answered for it
+pub field-room-at : (tag len : ℕ) (s : List ℕ) (at : ℕ) {x : Status} → x ≡ fieldStatus tag len (drop at s) → x ≡ Accepted → at + (headerSize + len) ≤ length s
+field-room-at tag len s at e g =
+    let r : headerSize + len ≤ length s - at = rw (length-drop at s) at (field-room tag len (drop at s) (sym e ∙ g)) in
     omega arith
+
+pub value-at : (s : List ℕ) (at : ℕ) → drop (at + headerSize) s ≡ valueOf (drop at s)
+value-at s at = sym (drop-drop headerSize at s)

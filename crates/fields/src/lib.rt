@@ -3,11 +3,18 @@ ghost use mathlib.Core.Path.{_≡_};
 ghost use Prim.Native.Nat.{_≤_};
 ghost use lib.ListN.{length, drop};
 ghost use Rattle.buffer.specs.Buffer.{onto};
-ghost use Rattle.fields.specs.Field.{header, headerSize, fieldStatus};
+ghost use Rattle.fields.specs.Field.{header, headerSize, endSize, endField, fieldStatus};
 use outcome::Refusal;
 use outcome::Status;
 
 pub const HEADER_SIZE: usize = 3;
+
+// The end field: it has no value.
+pub const END_TAG: u8 = 255;
+
+pub const END_LENGTH: usize = 0;
+
+pub const END_SIZE: usize = HEADER_SIZE + END_LENGTH;
 
 // Whether the field that starts at a place of s has this tag, this length and its whole value: the first of refusals 2 to 5, or none.
 pub fn check_field(s: &[u8], at: usize, tag: u8, len: usize) -> Status
@@ -39,4 +46,12 @@ pub fn write_header(out: &mut [u8], tag: u8, len: u16)
 {
     out[0] = tag;
     bigendian::write_u16(&mut out[1..], len);
+}
+
+// The end field, over the front of out.
+pub fn write_end(out: &mut [u8])
+    requires { ⌜ endSize ≤ length (now out) ⌝ }
+    ensures { λ _. ⌜ now (out .exit) ≡ onto endField (now (out .entry)) ⌝ }
+{
+    write_header(out, END_TAG, END_LENGTH as u16);
 }

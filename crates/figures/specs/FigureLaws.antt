@@ -8,16 +8,15 @@ use native.Mathlib.Omega.{arith}
 use native.Mathlib.Nat.{mul-zero, mul-suc, add-comm}
 use lib.ListN.{length, getD, take, drop, length-append, length-drop, take-append-drop}
 use lib.Seq.{take-at, drop-at, drop-drop}
-use lib.Dec.{leb}
-use lib.IntN.{ℤ, natAbs}
+use lib.IntN.{ℤ, pos, natAbs}
 use mir.Syntax.{Width}
-use mir.Val.{SFits, bits, hbits}
+use mir.Val.{bits, hbits}
 use mir.Facts.{toZ-ofZ, ofZ-toZ, fits-ofZ}
-use borrow.Author.Tests.{leb-true}
-use Rattle.integers.specs.Size.{sfits-size}
+use borrow.Author.Tests.{leb-true, le-leb}
+use Rattle.integers.specs.Size.{sfits-leb}
 use Rattle.bigendian.specs.Number.{be, bytes}
 use Rattle.bigendian.specs.NumberLaws.{Bytes, bytes-drop, bytes-of, be-of, be-bytes, length-bytes}
-use Rattle.figures.specs.Figures.{Kind, unsigned, signed, upTo, within, figures, after, spread, all}
+use Rattle.figures.specs.Figures.{Kind, unsigned, signed, upTo, within, items, figureAt, figures, after, spread, all}
 
 -- ---- tests over lists
 
@@ -50,6 +49,13 @@ module _ {X : Type 0} (p : X → Bool) where
   all-at d e (x ∷ l) h zero = and-true (p x) (all p l) h .0
   all-at d e (x ∷ l) h (suc i) = all-at d e l (and-true (p x) (all p l) h .1) i
 
+-- a figure of a list that passed the test of a limit, past the end too
+pub within-at : (limit : ℕ) (l : List ℤ) → all (within limit) l ≡ true → (i : ℕ) → natAbs (getD l i (pos 0)) ≤ limit
+within-at limit l h i = leb-true _ _ (all-at (within limit) (pos 0) (le-leb 0 limit (omega arith)) l h i)
+
+pub upTo-at : (limit : ℕ) (l : List ℕ) → all (upTo limit) l ≡ true → (i : ℕ) → getD l i 0 ≤ limit
+upTo-at limit l h i = leb-true _ _ (all-at (upTo limit) 0 (le-leb 0 limit (omega arith)) l h i)
+
 -- ---- a kind holds the figures that pass a test
 
 pub record Lawful {X : Type 0} (k : Kind X) (f : X → Bool) : Type 0 where
@@ -68,22 +74,19 @@ unsigned-lawful n limit h =
 pub signed-lawful : (n : ℕ) (w : Width) (limit : ℕ) → 2 ^ bits w ≡ 256 ^ n → limit < 2 ^ hbits w → Lawful (signed n w) (within limit)
 signed-lawful n w limit g h =
     record {
-      back = λ z e. toZ-ofZ (holds z e);
-      fits = λ z e. rw (← g) (fits-ofZ (holds z e) .fits);
+      back = λ z e. toZ-ofZ (sfits-leb limit h z e);
+      fits = λ z e. rw (← g) (fits-ofZ (sfits-leb {w = w} limit h z e) .fits);
       same = λ b k. ofZ-toZ {w = w} (record { fits = rw g k });
     }
-  where
-    holds : (z : ℤ) → leb (natAbs z) limit ≡ true → SFits w z
-    holds z e = let k : natAbs z ≤ limit = leb-true (natAbs z) limit e in sfits-size (omega arith)
 
 -- ---- runs of figures
 
-module _ {X : Type 0} (k : Kind X) where
-  pub length-figures : (n : ℕ) (v : List ℕ) → length (figures k n v) ≡ n
-  unfolding figures
-  length-figures zero v = refl
-  length-figures (suc n) v = ap suc (length-figures n (drop (k .width) v))
+pub length-items : {A : Type 0} (w : ℕ) (item : List ℕ → A) (n : ℕ) (v : List ℕ) → length (items w item n v) ≡ n
+unfolding items
+length-items w item zero v = refl
+length-items w item (suc n) v = ap suc (length-items w item n (drop w v))
 
+module _ {X : Type 0} (k : Kind X) where
   pub length-spread : (xs : List X) → length (spread k xs) ≡ k .width * length xs
   unfolding spread
   length-spread [] = sym (mul-zero (k .width))
@@ -91,19 +94,13 @@ module _ {X : Type 0} (k : Kind X) where
       length-append (bytes (k .width) (k .number x)) (spread k xs)
       ∙ rw (length-bytes (k .width) (k .number x), length-spread xs, mul-suc (k .width) (length xs)) (omega arith)
 
-  pub spread-append : (xs ys : List X) → spread k (xs ++ ys) ≡ spread k xs ++ spread k ys
-  unfolding spread
-  spread-append [] ys = refl
-  spread-append (x ∷ xs) ys =
-      rw (spread-append xs ys, append-assoc (bytes (k .width) (k .number x)) (spread k xs) (spread k ys))
-
   pub after-spread : (n : ℕ) (xs : List X) (r : List ℕ) → length xs ≡ n → after k n (spread k xs ++ r) ≡ r
   after-spread n xs r e = drop-at (spread k xs) r (k .width * n) (length-spread xs ∙ rw e)
 
   module _ (f : X → Bool) (l : Lawful k f) where
     -- what was written is read back
     pub figures-spread : (n : ℕ) (xs : List X) (r : List ℕ) → length xs ≡ n → all f xs ≡ true → figures k n (spread k xs ++ r) ≡ xs
-    unfolding figures spread all
+    unfolding items spread all
     figures-spread zero [] r e g = refl
     figures-spread (suc n) [] r e g = absurd (omega arith)
     figures-spread zero (x ∷ xs) r e g = absurd (omega arith)
@@ -112,18 +109,15 @@ module _ {X : Type 0} (k : Kind X) where
         let b : List ℕ = bytes (k .width) (k .number x) in
         let m : length xs ≡ n = omega arith in
         let s : length b ≡ k .width = length-bytes (k .width) (k .number x) in
-        rw (
-          append-assoc b (spread k xs) r,
-          take-at b (spread k xs ++ r) (k .width) s,
-          drop-at b (spread k xs ++ r) (k .width) s,
-          be-bytes (k .width) (k .number x) (l .fits x (w .0)),
-          l .back x (w .0),
-          figures-spread n xs r m (w .1),
-        )
+        let front : figureAt k (b ++ (spread k xs ++ r)) ≡ x =
+        ap (λ (v : List ℕ). k .figure (be v)) (take-at b (spread k xs ++ r) (k .width) s)
+        ∙ ap (k .figure) (be-bytes (k .width) (k .number x) (l .fits x (w .0)))
+        ∙ l .back x (w .0) in
+        rw (append-assoc b (spread k xs) r, front, drop-at b (spread k xs ++ r) (k .width) s, figures-spread n xs r m (w .1))
 
     -- what was read is written back
     pub spread-figures : (n : ℕ) (v : List ℕ) → Bytes v → k .width * n ≤ length v → spread k (figures k n v) ++ after k n v ≡ v
-    unfolding figures spread
+    unfolding items spread
     spread-figures zero v bv h = rw (mul-zero (k .width))
     spread-figures (suc n) v bv h =
         let m : k .width * suc n ≡ k .width + k .width * n = mul-suc (k .width) n ∙ add-comm (k .width * n) (k .width) in

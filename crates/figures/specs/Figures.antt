@@ -1,7 +1,7 @@
 -- Kinds of figures, and runs of figures of one kind as bytes.
 use Prim.Native.Nat.{ℕ, zero, suc, _*_}
 use mathlib.Core.Bool.{Bool, true, _&&_}
-use mathlib.Core.List.{List, [], _∷_, _++_}
+use mathlib.Core.List.{List, [], _∷_}
 use mathlib.Core.Path.{_≡_}
 use lib.ListN.{length, take, drop}
 use lib.IntN.{ℤ, natAbs}
@@ -9,6 +9,7 @@ use lib.Dec.{leb}
 use mir.Syntax.{Width, w16, w32}
 use mir.Val.{toZ, ofZ}
 use Rattle.bigendian.specs.Number.{be, bytes}
+use Rattle.buffer.specs.Buffer.{joined}
 
 -- how many bytes a figure has, the figure of a number so written, and the number of a figure
 pub record Kind (X : Type 0) : Type 0 where
@@ -43,11 +44,18 @@ upTo limit x = leb x limit
 abbrev pub within : ℕ → ℤ → Bool
 within limit z = leb (natAbs z) limit
 
+-- n items of a width, one after another from the front of v
+unfoldable pub items : {A : Type 0} → ℕ → (List ℕ → A) → ℕ → List ℕ → List A
+items w item zero v = []
+items w item (suc n) v = item v ∷ items w item n (drop w v)
+
 module _ {X : Type 0} where
-  -- the first n figures at the front of v
-  unfoldable pub figures : Kind X → ℕ → List ℕ → List X
-  figures k zero v = []
-  figures k (suc n) v = k .figure (be (take (k .width) v)) ∷ figures k n (drop (k .width) v)
+  -- the figure, and the first n figures, at the front of v
+  abbrev pub figureAt : Kind X → List ℕ → X
+  figureAt k v = k .figure (be (take (k .width) v))
+
+  abbrev pub figures : Kind X → ℕ → List ℕ → List X
+  figures k n v = items (k .width) (figureAt k) n v
 
   -- what follows them
   abbrev pub after : Kind X → ℕ → List ℕ → List ℕ
@@ -55,14 +63,17 @@ module _ {X : Type 0} where
 
   -- the bytes of a run of figures
   unfoldable pub spread : Kind X → List X → List ℕ
-  spread k [] = []
-  spread k (x ∷ xs) = bytes (k .width) (k .number x) ++ spread k xs
+  spread k xs = joined (λ x. bytes (k .width) (k .number x)) xs
 
   unfoldable pub all : (X → Bool) → List X → Bool
   all p [] = true
   all p (x ∷ xs) = p x && all p xs
 
+-- an answer that is due and, where it is yes, what was made
+pub record Answered {S A : Type 0} (yes due : S) (value : A) (r : S) (out : A) : Type 0 where
+  pub status : r ≡ due
+  pub made : r ≡ yes → out ≡ value
+
 -- what reading as many figures as out has places, from the front of v, gives: whether all pass the test and, where they do, the figures in out
-pub record Read {X : Type 0} (k : Kind X) (f : X → Bool) (v : List ℕ) (entry : List X) (r : Bool) (exit : List X) : Type 0 where
-  pub test : r ≡ all f (figures k (length entry) v)
-  pub made : r ≡ true → exit ≡ figures k (length entry) v
+abbrev pub Read : {X : Type 0} → Kind X → (X → Bool) → List ℕ → List X → Bool → List X → Type 0
+Read k f v entry r exit = Answered true (all f (figures k (length entry) v)) (figures k (length entry) v) r exit

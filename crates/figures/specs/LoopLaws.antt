@@ -1,91 +1,115 @@
 -- The three loops over a run of figures, each once for every kind: reading with a test, testing, writing. What is left, done from here, gives the whole.
 -- Assumes nothing.
-use mathlib.Core.Path.{_≡_, refl, sym, ap, _∙_}
+use mathlib.Core.Path.{_≡_, refl, sym, _∙_}
 use mathlib.Core.List.{List, [], _∷_, _++_, append-nil}
 use mathlib.Core.Bool.{Bool, true, false}
-use Prim.Native.Nat.{ℕ, suc, _+_, _*_, _-_, _≤_, _<_}
+use Prim.Native.Nat.{ℕ, suc, _+_, _*_, _-_, _^_, _≤_, _<_}
 use native.Mathlib.Omega.{arith}
-use native.Mathlib.Nat.{mul-zero, mul-suc, mul-le-mul-left, sub-zero}
+use native.Mathlib.Nat.{mul-suc, sub-zero}
 use native.Mathlib.Numerals.{add-one}
-use lib.ListN.{length, getD, take, drop, set, length-set, length-take, drop-of-length-le}
-use lib.Seq.{drop-cons, drop-drop, take-suc, take-suc-set, append-snoc, take-all}
-use Rattle.bigendian.specs.Number.{be, bytes}
-use Rattle.buffer.specs.Buffer.{onto}
-use Rattle.buffer.specs.Laws.{part, put, then, length-onto}
-use Rattle.figures.specs.Figures.{Kind, figures, spread, all, Read}
-use Rattle.figures.specs.FigureLaws.{length-spread, spread-append}
+use lib.ListN.{length, getD, take, drop, set, length-set, drop-of-length-le}
+use lib.Seq.{drop-cons, drop-drop, take-suc-set, append-snoc, take-all}
+use lib.Signed.{mag}
+use lib.Dec.{T, leb}
+use lib.IntN.{ℤ}
+use mir.Syntax.{Width, w64}
+use mir.Val.{hbits, toZ, ofZ}
+use Rattle.integers.specs.Signed.{wide-is}
+use Rattle.bigendian.specs.Number.{bytes}
+use Rattle.buffer.specs.Buffer.{onto, run}
+use Rattle.buffer.specs.RunLaws.{joined-run, Running, run-ended}
+use Rattle.figures.specs.Figures.{Kind, within, items, figureAt, figures, spread, all, Read}
 
 pub no : {P : Type 0} → false ≡ true → P
 no e = let z : _≡_ {A = ℕ} 0 1 = cc in absurd (omega arith)
 
--- ---- reading as many figures as out has places, from `at` on
+-- the test of a signed figure of a width, made in 64 bits
+pub tested : (w : Width) → T (leb (hbits w) (hbits w64)) → (z : ℤ) → mag z < 2 ^ hbits w → (limit : ℕ) {r b : Bool}
+    → r ≡ within limit (toZ w64 (ofZ w64 (toZ w (ofZ w z)))) → r ≡ b → within limit z ≡ b
+tested w narrow z h limit e g = sym (rw (wide-is w narrow z (record { sfits = h })) at e) ∙ g
+
+-- ---- reading n items from `at` on, of which i are done: what is left, read on from p, gives the answer and the items of the whole
+
+module _ {A S : Type 0} (w : ℕ) (item : List ℕ → A) (answer : ℕ → List ℕ → S) (n : ℕ) (s : List ℕ) (at : ℕ) where
+  pub record Reading (done : List A) (i p : ℕ) : Type 0 where
+    pub count : i ≤ n
+    status : answer (n - i) (drop p s) ≡ answer n (drop at s)
+    made : done ++ items w item (n - i) (drop p s) ≡ items w item n (drop at s)
+
+  pub begun : Reading [] 0 at
+  begun = record { count = omega arith; status = rw (sub-zero n); made = rw (sub-zero n) }
+
+  module _ {done : List A} {i p : ℕ} (r : Reading done i p) where
+    left : i < n → n - i ≡ suc (n - (i + 1))
+    left h = omega arith
+
+    -- the next item's answer is the whole's
+    pub stopped : i < n → {x : S} → ((m : ℕ) → x ≡ answer (suc m) (drop p s)) → x ≡ answer n (drop at s)
+    stopped h e =
+        let q : answer (suc (n - (i + 1))) (drop p s) ≡ answer n (drop at s) = rw (left h) at (r .status) in
+        e _ ∙ q
+
+    -- the whole's answer is what the items behind the next one give
+    pub turn : i < n → ((m : ℕ) → answer m (drop w (drop p s)) ≡ answer (suc m) (drop p s)) → Reading (done ++ (item (drop p s) ∷ [])) (i + 1) (p + w)
+    unfolding items
+    turn h e =
+        let q : answer (suc (n - (i + 1))) (drop p s) ≡ answer n (drop at s) = rw (left h) at (r .status) in
+        let d : done ++ items w item (suc (n - (i + 1))) (drop p s) ≡ items w item n (drop at s) = rw (left h) at (r .made) in
+        record {
+          count = omega arith;
+          status = rw (← (drop-drop w p s)) (e _ ∙ q);
+          made = rw (append-snoc done (item (drop p s)) (items w item (n - (i + 1)) (drop (p + w) s)), ← (drop-drop w p s)) d;
+        }
+
+    pub ended : n ≤ i → (answer 0 (drop p s) ≡ answer n (drop at s)) × (done ≡ items w item n (drop at s))
+    unfolding items
+    ended h =
+        let m : n - i ≡ 0 = omega arith in
+        let d : done ++ items w item 0 (drop p s) ≡ items w item n (drop at s) = rw m at (r .made) in
+        (rw m at (r .status), sym (append-nil done) ∙ d)
+
+-- ---- reading as many figures as out has places
 
 module _ {X : Type 0} (k : Kind X) (f : X → Bool) (s : List ℕ) (at : ℕ) (out₀ : List X) where
-  pub record Reading (out : List X) (i p : ℕ) : Type 0 where
-    pub inside : i ≤ length out₀
+  pub record ReadingFigures (out : List X) (i p : ℕ) : Type 0 where
     pub room : p + k .width * (length out₀ - i) ≤ length s
     pub same : length out ≡ length out₀
-    pub test : all f (figures k (length out₀ - i) (drop p s)) ≡ all f (figures k (length out₀) (drop at s))
-    pub made : take i out ++ figures k (length out₀ - i) (drop p s) ≡ figures k (length out₀) (drop at s)
+    pub read : Reading (k .width) (figureAt k) (λ m v. all f (figures k m v)) (length out₀) s at (take i out) i p
 
 module _ {X : Type 0} {k : Kind X} {f : X → Bool} {s : List ℕ} {at : ℕ} {out₀ : List X} where
-  pub read-begun : at + k .width * length out₀ ≤ length s → Reading k f s at out₀ out₀ 0 at
-  read-begun h =
-      record {
-        inside = omega arith;
-        room = rw (sub-zero (length out₀)) h;
-        same = refl;
-        test = rw (sub-zero (length out₀));
-        made = rw (sub-zero (length out₀));
-      }
+  pub read-begun : at + k .width * length out₀ ≤ length s → ReadingFigures k f s at out₀ out₀ 0 at
+  read-begun h = record { room = rw (sub-zero (length out₀)) h; same = refl; read = begun _ _ _ _ _ _ }
 
-  -- the next figure has its bytes
-  pub read-next : {out : List X} {i p : ℕ} → Reading k f s at out₀ out i p → i < length out → p + k .width ≤ length s
-  read-next {out} {i} {p} r h =
-      let m : length out₀ - i ≡ suc (length out₀ - (i + 1)) = omega (arith, r .same) in
-      let q : p + k .width * suc (length out₀ - (i + 1)) ≤ length s = rw m at (r .room) in
-      omega (arith, mul-suc (k .width) (length out₀ - (i + 1)))
+  module _ {out : List X} {i p : ℕ} (r : ReadingFigures k f s at out₀ out i p) where
+    -- the next figure has its bytes, and what is left has its own
+    after-next : i < length out → p + k .width + k .width * (length out₀ - (i + 1)) ≤ length s
+    after-next h =
+        let m : length out₀ - i ≡ suc (length out₀ - (i + 1)) = omega (arith, r .same) in
+        let q : p + k .width * suc (length out₀ - (i + 1)) ≤ length s = rw m at (r .room) in
+        omega (arith, mul-suc (k .width) (length out₀ - (i + 1)))
 
-  -- the next figure is x: refused, or set
-  pub read-stopped : {out exit : List X} {i p : ℕ} {x : X} → Reading k f s at out₀ out i p → i < length out
-      → x ≡ k .figure (be (take (k .width) (drop p s))) → f x ≡ false → Read k f (drop at s) out₀ false exit
-  unfolding all figures
-  read-stopped {out} {exit} {i} {p} {x} r h e t =
-      let m : length out₀ - i ≡ suc (length out₀ - (i + 1)) = omega (arith, r .same) in
-      let q : all f (figures k (suc (length out₀ - (i + 1))) (drop p s)) ≡ all f (figures k (length out₀) (drop at s)) = rw m at (r .test) in
-      record { test = rw (← e, t) at q; made = λ e. no e }
+    pub read-next : i < length out → p + k .width ≤ length s
+    read-next h = omega (arith, after-next h)
 
-  pub read-turn : {out : List X} {i p : ℕ} {x : X} → Reading k f s at out₀ out i p → i < length out
-      → x ≡ k .figure (be (take (k .width) (drop p s))) → f x ≡ true → Reading k f s at out₀ (set out i x) (i + 1) (p + k .width)
-  unfolding all figures
-  read-turn {out} {i} {p} {x} r h e t =
-      let m : length out₀ - i ≡ suc (length out₀ - (i + 1)) = omega (arith, r .same) in
-      let q : all f (figures k (suc (length out₀ - (i + 1))) (drop p s)) ≡ all f (figures k (length out₀) (drop at s)) = rw m at (r .test) in
-      let d : take i out ++ figures k (suc (length out₀ - (i + 1))) (drop p s) ≡ figures k (length out₀) (drop at s) = rw m at (r .made) in
-      let g : p + k .width * suc (length out₀ - (i + 1)) ≤ length s = rw m at (r .room) in
-      record {
-        inside = omega (arith, r .same);
-        room = omega (arith, mul-suc (k .width) (length out₀ - (i + 1)));
-        same = length-set out i x ∙ r .same;
-        test = rw (← (drop-drop (k .width) p s)) (rw (← e, t) at q);
-        made =
-            rw (
-              add-one i,
-              take-suc-set out i x h,
-              append-snoc (take i out) x (figures k (length out₀ - suc i) (drop (p + k .width) s)),
-              ← (drop-drop (k .width) p s),
-              ← (add-one i),
-            )
-            (rw (← e) at d);
-      }
+    -- the next figure is x: refused, or set
+    pub read-stopped : {exit : List X} {x : X} → i < length out → x ≡ figureAt k (drop p s) → f x ≡ false → Read k f (drop at s) out₀ false exit
+    unfolding all items
+    read-stopped h e t = record { status = stopped _ _ _ _ _ _ (r .read) (omega (arith, r .same)) (λ m. rw (← e, t)); made = λ e. no e }
 
-  pub read-ended : {out : List X} {i p : ℕ} → Reading k f s at out₀ out i p → length out ≤ i → Read k f (drop at s) out₀ true out
-  unfolding all figures
-  read-ended {out} {i} {p} r h =
-      let m : length out₀ - i ≡ 0 = omega (arith, r .same) in
-      let q : all f (figures k 0 (drop p s)) ≡ all f (figures k (length out₀) (drop at s)) = rw m at (r .test) in
-      let d : take i out ++ [] ≡ figures k (length out₀) (drop at s) = rw m at (r .made) in
-      record { test = q; made = λ e. sym (append-nil (take i out) ∙ take-all i out h) ∙ d }
+    pub read-turn : {x : X} → i < length out → x ≡ figureAt k (drop p s) → f x ≡ true → ReadingFigures k f s at out₀ (set out i x) (i + 1) (p + k .width)
+    unfolding all items
+    read-turn {x} h e t =
+        record {
+          room = after-next h;
+          same = length-set out i x ∙ r .same;
+          read = rw (add-one i, take-suc-set out i x h, ← (add-one i), e) (turn _ _ _ _ _ _ (r .read) (omega (arith, r .same)) (λ m. rw (← e, t)));
+        }
+
+    pub read-ended : length out ≤ i → Read k f (drop at s) out₀ true out
+    unfolding all items
+    read-ended h =
+        let w = ended _ _ _ _ _ _ (r .read) (omega (arith, r .same)) in
+        record { status = w .0; made = λ _. sym (take-all i out h) ∙ w .1 }
 
 -- ---- testing each element of a list
 
@@ -116,49 +140,13 @@ module _ {X : Type 0} {f : X → Bool} {l : List X} where
 
 -- ---- writing a list of figures over the front of a buffer
 
-module _ {X : Type 0} (k : Kind X) (l : List X) (out₀ : List ℕ) where
-  pub record Writing (out : List ℕ) (i p : ℕ) : Type 0 where
-    pub count : i ≤ length l
-    pub room : k .width * length l ≤ length out₀
-    pub place : p ≡ k .width * i
-    pub same : length out ≡ length out₀
-    pub is : out ≡ onto (spread k (take i l)) out₀
-
-  more : (d : X) (i : ℕ) → i < length l → spread k (take (suc i) l) ≡ spread k (take i l) ++ bytes (k .width) (k .number (getD l i d))
+module _ {X : Type 0} (k : Kind X) (d : X) (l : List X) where
+  pub spread-run : (i : ℕ) → i ≤ length l → spread k (take i l) ≡ run i (λ j. bytes (k .width) (k .number (getD l j d)))
   unfolding spread
-  more d i h = rw (take-suc l i d h, spread-append k (take i l) (getD l i d ∷ []), append-nil)
+  spread-run i h = joined-run (λ x. bytes (k .width) (k .number x)) d l i h
 
-  size : (i : ℕ) → i ≤ length l → length (spread k (take i l)) ≡ k .width * i
-  size i h =
-      let n : length (take i l) ≡ i = length-take i l ∙ omega arith in
-      length-spread k (take i l) ∙ rw n
+  abbrev pub Writing : List ℕ → List ℕ → ℕ → ℕ → Type 0
+  Writing out₀ out i p = Running (k .width) (λ j. bytes (k .width) (k .number (getD l j d))) (length l) 0 out₀ out i p
 
-module _ {X : Type 0} {k : Kind X} {l : List X} {out₀ : List ℕ} where
-  pub write-begun : k .width * length l ≤ length out₀ → Writing k l out₀ out₀ 0 0
-  unfolding spread
-  write-begun h = record { count = omega arith; room = h; place = sym (mul-zero (k .width)); same = refl; is = refl }
-
-  -- the next figure has room
-  pub write-next : {out : List ℕ} {i p : ℕ} → Writing k l out₀ out i p → i < length l → p + k .width ≤ length out
-  write-next {out} {i} {p} r h =
-      let m : k .width * suc i ≤ k .width * length l = mul-le-mul-left (k .width) h in
-      omega (arith, r, mul-suc (k .width) i)
-
-  pub write-turn : (d : X) {out ys : List ℕ} {i p : ℕ} → Writing k l out₀ out i p → i < length l
-      → ys ≡ onto (bytes (k .width) (k .number (getD l i d))) (part out p) → Writing k l out₀ (put out p ys) (i + 1) (p + k .width)
-  write-turn d {out} {ys} {i} {p} r h e =
-      let q : put out p ys ≡ onto (spread k (take (i + 1) l)) out₀ =
-      then out₀ out (spread k (take i l)) (bytes (k .width) (k .number (getD l i d))) p ys (r .is) (size k l out₀ i (r .count) ∙ sym (r .place)) e
-      ∙ rw (add-one i, more k l out₀ d i h) in
-      let s : length (spread k (take (i + 1) l)) ≡ k .width * (i + 1) = size k l out₀ (i + 1) (omega arith) in
-      let m : k .width * (i + 1) ≤ k .width * length l = mul-le-mul-left (k .width) (omega arith) in
-      record {
-        count = omega arith;
-        room = r .room;
-        place = rw (r .place, add-one i, mul-suc (k .width) i);
-        same = ap length q ∙ length-onto (spread k (take (i + 1) l)) out₀ (omega (arith, r .room));
-        is = q;
-      }
-
-  pub write-ended : {out : List ℕ} {i p : ℕ} → Writing k l out₀ out i p → length l ≤ i → out ≡ onto (spread k l) out₀
-  write-ended {out} {i} r h = rw (take-all i l h) at (r .is)
+  pub write-ended : {out₀ out : List ℕ} {i p : ℕ} → Writing out₀ out i p → length l ≤ i → out ≡ onto (spread k l) out₀
+  write-ended r h = run-ended r h .is ∙ rw (← (spread-run (length l) (omega arith)), take-all (length l) l (omega arith))

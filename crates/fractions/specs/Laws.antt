@@ -89,6 +89,17 @@ proper-base a zero h = absurd (omega arith)
 proper-base zero (suc b) h = refl
 proper-base (suc a) (suc b) h = refl
 
+-- against u / v, whose denominator is not read anew: v a ≤ u b, from and to the order
+pub cross-from-base : (a b u v : ℕ) → a * v ≤ u * below a b → v * a ≤ u * b
+cross-from-base zero zero u v h = omega arith
+cross-from-base zero (suc b) u v h = omega arith
+cross-from-base (suc a) b u v h = omega arith
+
+pub cross-to-base : (a b u v : ℕ) → v * a ≤ u * b → a * v ≤ u * below a b
+cross-to-base zero zero u v h = omega arith
+cross-to-base zero (suc b) u v h = omega arith
+cross-to-base (suc a) b u v h = omega arith
+
 -- transitive
 module _ (f g h : Fraction) where
   pub ≼-trans : f ≼ g → g ≼ h → f ≼ h

@@ -3,18 +3,21 @@
 -- By `omega`, from bounds in reach: `omega (arith, fits, natAbs-+ℤ x y)`.
 -- By computing a bound, from a bound of each variable: `let X = at-most x 1000 hx in let Y = at-most y 9 hy in sfits-by (search bounds) tt`.
 -- Assumes nothing.
-use mathlib.Core.Path.{_≡_, refl}
+use mathlib.Core.Path.{_≡_, refl, sym, ap}
 use Prim.Native.Nat.{ℕ, zero, suc, _+_, _*_, _^_, _≤_, _<_}
-use native.Mathlib.Nat.{mul-le-mul, le-trans, lt-of-le-of-lt, lt-of-lt-of-le}
+use native.Mathlib.Nat.{mul-le-mul, mul-le-mul-right, le-trans, lt-of-le-of-lt, lt-of-lt-of-le}
 use native.Mathlib.Omega.{arith}
 use lib.Dec.{T, leb, ltb, ltb→lt, leb→le}
-use lib.IntN.{ℤ, pos, negsuc, negℤ, natAbs, _+ℤ_, _-ℤ_, _*ℤ_}
+use lib.IntN.{ℤ, pos, negsuc, negℤ, natAbs, _+ℤ_, _-ℤ_, _*ℤ_, *ℤ-zero}
 use lib.Pow.{pow-pos, pow-mono}
 use lib.Signed.{mag, _≤ℤ_}
 use mir.Syntax.{Width}
+use mathlib.Core.Bool.{true}
+use borrow.Author.Tests.{leb-true}
 use mir.Val.{hbits, SFits}
-use Rattle.integers.specs.Diff.{one-side, abs-parts, add-parts, neg-parts}
+use Rattle.integers.specs.Diff.{one-side, abs-parts, size-parts, add-parts, neg-parts, sub-parts}
 use Rattle.integers.specs.Order.{ints}
+use Rattle.integers.specs.Ring.{negℤ-*ℤ-negℤ}
 
 -- ---- the laws
 
@@ -60,6 +63,36 @@ pub ≤ℤ-natAbs : (x : ℤ) → x ≤ℤ pos (natAbs x)
 pub natAbs-0≤ : (x : ℤ) → pos 0 ≤ℤ x → pos (natAbs x) ≡ x
 natAbs-0≤ x h = omega (arith, ints, abs-parts x, one-side x)
 
+-- a size within a multiple of 0
+pub natAbs-within-zero : (x : ℤ) (t u v : ℕ) → 0 < v → v * natAbs x ≤ u * t → t ≡ 0 → x ≡ pos 0
+natAbs-within-zero x t u v p h e = natAbs-zero x (omega (arith, mul-le-mul-right (natAbs x) p, ap (λ n. u * n) e))
+
+-- ---- the sign of one number on another
+
+-- x with its sign turned where y is below zero, and 0 where y is 0
+abbrev pub turned : ℤ → ℤ → ℤ
+turned (pos zero) x = pos 0
+turned (pos (suc y)) x = x
+turned (negsuc y) x = negℤ x
+
+pub turned-size : (y x : ℤ) → natAbs (turned y x) ≤ natAbs x
+turned-size (pos zero) x = omega arith
+turned-size (pos (suc y)) x = omega arith
+turned-size (negsuc y) x = omega (arith, natAbs-negℤ x)
+
+pub turned-times : (y x : ℤ) → turned y x *ℤ y ≡ x *ℤ pos (natAbs y)
+turned-times (pos zero) x = sym (*ℤ-zero x)
+turned-times (pos (suc y)) x = refl
+turned-times (negsuc y) x = negℤ-*ℤ-negℤ x (pos (suc y))
+
+-- a number with the sign of p is as near to p as the sizes are
+pub turned-near : (p : ℤ) (x b : ℕ) → 2 * x ≤ 2 * natAbs p + b → 2 * natAbs p ≤ 2 * x + b → 2 * natAbs (turned p (pos x) -ℤ p) ≤ b
+turned-near (pos zero) x b h k = omega arith
+turned-near (pos (suc a)) x b h k =
+    omega (arith, sub-parts (pos x) (pos (suc a)), size-parts (pos x -ℤ pos (suc a)))
+turned-near (negsuc a) x b h k =
+    omega (arith, sub-parts (negℤ (pos x)) (negsuc a), neg-parts (pos x), size-parts (negℤ (pos x) -ℤ negsuc a))
+
 -- ---- what fits a signed width
 
 mag-le : (z : ℤ) → mag z ≤ natAbs z
@@ -73,6 +106,10 @@ natAbs-mag (negsuc n) = omega arith
 -- a size below half the width's power fits
 pub sfits-size : {w : Width} {z : ℤ} → natAbs z < 2 ^ hbits w → SFits w z
 sfits-size {w} {z} h = record { sfits = lt-of-le-of-lt (mag-le z) h }
+
+-- also one that passed the test of a limit
+pub sfits-leb : {w : Width} (limit : ℕ) → limit < 2 ^ hbits w → (z : ℤ) → leb (natAbs z) limit ≡ true → SFits w z
+sfits-leb limit h z e = let k : natAbs z ≤ limit = leb-true (natAbs z) limit e in sfits-size (omega arith)
 
 -- and what fits has at most that size
 pub size-sfits : {w : Width} {z : ℤ} → SFits w z → natAbs z ≤ 2 ^ hbits w

@@ -1,14 +1,14 @@
 -- Finite sums by prefixes: the sum of the first n terms of a sequence, formed from the first term on. Over ℤ `sum`, over ℕ `total`.
 -- That one term more adds exactly that term is the definition itself, so a loop's invariant is `s ≡ sum j f`. Assumes nothing.
-use mathlib.Core.Path.{_≡_, refl, ap, ap₂}
+use mathlib.Core.Path.{_≡_, refl, ap, ap₂, _∙_}
 use mathlib.Core.List.{[], _∷_}
 use Prim.Native.Nat.{ℕ, zero, suc, _+_, _*_, _≤_, _<_}
-use native.Mathlib.Nat.{le-trans}
+use native.Mathlib.Nat.{le-trans, mul-le-mul-left}
 use native.Mathlib.Numerals.{add-one}
 use native.Mathlib.Omega.{arith}
 use lib.IntN.{ℤ, pos, natAbs, _+ℤ_, _*ℤ_}
 use Rattle.integers.specs.Poly.{poly, terms}
-use Rattle.integers.specs.Size.{natAbs-+ℤ}
+use Rattle.integers.specs.Size.{natAbs-+ℤ, turned, turned-times}
 
 abbrev pub sum : ℕ → (ℕ → ℤ) → ℤ
 sum zero f = pos 0
@@ -52,6 +52,23 @@ pub sum-pos : (n : ℕ) (f : ℕ → ℕ) → sum n (λ j. pos (f j)) ≡ pos (t
 sum-pos zero f = refl
 sum-pos (suc n) f = ap (λ x. x +ℤ pos (f n)) (sum-pos n f)
 
+-- Σ (q A(j) + a(j)) Y(j) = q Σ A(j) Y(j) + Σ a(j) Y(j)
+pub sum-weighted : (q : ℤ) (n : ℕ) (A a Y : ℕ → ℤ)
+    → sum n (λ j. (q *ℤ A j +ℤ a j) *ℤ Y j) ≡ q *ℤ sum n (λ j. A j *ℤ Y j) +ℤ sum n (λ j. a j *ℤ Y j)
+sum-weighted q n A a Y =
+    sum-cong n _ _ (λ j l. poly (q ∷ A j ∷ a j ∷ Y j ∷ []) (λ w. search terms depth 20) refl)
+    ∙ sum-add n (λ j. q *ℤ (A j *ℤ Y j)) (λ j. a j *ℤ Y j)
+    ∙ ap (λ x. x +ℤ sum n (λ j. a j *ℤ Y j)) (sum-scale q n (λ j. A j *ℤ Y j))
+
+-- Σ a(j) Y(j) = R Σ E(j) |Y(j)|, where a(j) is E(j) R with the sign of Y(j) on it
+pub sum-turned : (R : ℤ) (n : ℕ) (E : ℕ → ℕ) (Y : ℕ → ℤ)
+    → sum n (λ j. turned (Y j) (pos (E j) *ℤ R) *ℤ Y j) ≡ R *ℤ pos (total n (λ j. E j * natAbs (Y j)))
+sum-turned R n E Y =
+    sum-cong n _ _
+    (λ j l. turned-times (Y j) (pos (E j) *ℤ R) ∙ poly (R ∷ pos (E j) ∷ pos (natAbs (Y j)) ∷ []) (λ w. search terms depth 20) refl)
+    ∙ sum-scale R n (λ j. pos (E j * natAbs (Y j)))
+    ∙ ap (λ x. R *ℤ x) (sum-pos n (λ j. E j * natAbs (Y j)))
+
 -- no term
 pub sum-empty : (m : ℕ) (f : ℕ → ℤ) → m ≡ 0 → sum m f ≡ pos 0
 sum-empty m f e = rw e
@@ -81,6 +98,10 @@ total-bound (suc n) b f h = omega (arith, total-bound n b f (λ j l. h j (omega 
 pub sum-size : (n : ℕ) (f : ℕ → ℤ) → natAbs (sum n f) ≤ total n (λ j. natAbs (f j))
 sum-size zero f = omega arith
 sum-size (suc n) f = omega (arith, sum-size n f, natAbs-+ℤ (sum n f) (f n))
+
+-- where v |f(j)| ≤ w g(j) at each place, the same holds of the sums
+pub sum-within : (v w n : ℕ) (f : ℕ → ℤ) (g : ℕ → ℕ) → ((j : ℕ) → j < n → v * natAbs (f j) ≤ w * g j) → v * natAbs (sum n f) ≤ w * total n g
+sum-within v w n f g h = le-trans (mul-le-mul-left v (sum-size n f)) (total-within v w n (λ j. natAbs (f j)) g h)
 
 pub sum-bound : (n b : ℕ) (f : ℕ → ℤ) → ((j : ℕ) → j < n → natAbs (f j) ≤ b) → natAbs (sum n f) ≤ n * b
 sum-bound n b f h = le-trans (sum-size n f) (total-bound n b (λ j. natAbs (f j)) h)

@@ -1,5 +1,6 @@
-// Laws of whole numbers, in specs/, and the absolute value in code.
+// Laws of whole numbers, in specs/, and in code the absolute value and the powers of ten that an exponent of a case asks.
 ghost use mathlib.Core.Path.{_≡_};
+ghost use Prim.Native.Nat.{_^_, _<_};
 ghost use lib.IntN.{natAbs};
 
 // The absolute value of any number, the least one too.
@@ -11,4 +12,14 @@ pub fn magnitude(x: i64) -> u64
     } else {
         x as u64
     }
+}
+
+const POWERS_OF_TEN: [u16; 4] = [1, 10, 100, 1000];
+
+// 10 to the power e.
+pub fn power_of_ten(e: usize) -> u16
+    requires { ⌜ e < 4 ⌝ }
+    ensures { λ r. ⌜ r ≡ 10 ^ e ⌝ }
+{
+    POWERS_OF_TEN[e]
 }

@@ -2,7 +2,8 @@
 -- That changes exist is defined here, and not by |R| and T. Definitions only. Assumes nothing.
 use mathlib.Core.Path.{_≡_}
 use Prim.Native.Nat.{ℕ, zero, suc, _*_, _≤_, _<_}
-use lib.IntN.{ℤ, pos, negsuc, negℤ, natAbs, _+ℤ_, _*ℤ_}
+use lib.IntN.{ℤ, pos, negℤ, natAbs, _+ℤ_, _*ℤ_}
+use Rattle.integers.specs.Size.{turned}
 use Rattle.integers.specs.Sums.{sum}
 use Rattle.judge.specs.System.{Row, Trial}
 
@@ -41,13 +42,8 @@ pub record PossibleUnder (u v : ℕ) (r : Row) (t : Trial) : Type 0 where
 
 -- ---- the changes that a record of "met" yields, by its own residual R and reach T (equation 7.9)
 
--- x, "the sign turned where Y is negative and no change where Y is zero"
-abbrev pub turned : ℤ → ℤ → ℤ
-turned (pos zero) x = pos 0
-turned (pos (suc y)) x = x
-turned (negsuc y) x = negℤ x
-
--- a coefficient changes by E R / T so turned, the right side by − f R / T; all are zero where T is zero
+-- a coefficient changes by E R / T, "the sign turned where Y is negative and no change where Y is zero" (`turned` of integers/Size), the right side
+-- by − f R / T; all are zero where T is zero
 abbrev pub yielded : Row → Trial → ℤ → ℕ → Changes
 yielded r t R zero = record { a = λ j. pos 0; c = pos 0; q = 1 }
 yielded r t R (suc T) =

@@ -4,25 +4,14 @@ use mathlib.Core.Path.{_≡_, refl, sym, ap, _∙_}
 use mathlib.Core.Logic.{_↔_}
 use mathlib.Core.List.{[], _∷_}
 use Prim.Native.Nat.{ℕ, zero, suc, _+_, _*_, _≤_, _<_}
-use native.Mathlib.Nat.{le-of-mul-le-mul-left, mul-le-mul-left, mul-le-mul-right, le-trans}
+use native.Mathlib.Nat.{le-of-mul-le-mul-left, mul-le-mul-left, mul-le-mul-right}
 use native.Mathlib.Omega.{arith}
-use lib.IntN.{ℤ, pos, negsuc, natAbs, _+ℤ_, _-ℤ_, _*ℤ_, zero-*ℤ}
+use lib.IntN.{ℤ, pos, natAbs, _+ℤ_, _-ℤ_, _*ℤ_, zero-*ℤ}
 use Rattle.integers.specs.Poly.{poly, poly-from, terms}
-use Rattle.integers.specs.Ring.{negℤ-*ℤ-negℤ}
-use Rattle.integers.specs.Size.{natAbs-negℤ, natAbs-*ℤ, natAbs-subℤ, natAbs-zero}
-use Rattle.integers.specs.Sums.{sum, total, sum-cong, sum-none, sum-add, sum-scale, sum-pos, sum-size, total-within}
+use Rattle.integers.specs.Size.{natAbs-negℤ, natAbs-*ℤ, natAbs-subℤ, natAbs-within-zero, turned-size}
+use Rattle.integers.specs.Sums.{sum, total, sum-none, sum-weighted, sum-turned, sum-within}
 use Rattle.judge.specs.System.{Row, Trial, residual, reach}
-use Rattle.judge.specs.Changes.{Changes, Solve, Keep, Under, Possible, PossibleUnder, turned, yielded}
-
--- ---- the sum of a changed row
-
-changed-sum : (r : Row) (t : Trial) (k : Changes)
-    → sum (t .n) (λ j. (pos (k .q) *ℤ r .A j +ℤ k .a j) *ℤ t .Y j)
-    ≡ pos (k .q) *ℤ sum (t .n) (λ j. r .A j *ℤ t .Y j) +ℤ sum (t .n) (λ j. k .a j *ℤ t .Y j)
-changed-sum r t k =
-    sum-cong (t .n) _ _ (λ j l. poly (pos (k .q) ∷ r .A j ∷ k .a j ∷ t .Y j ∷ []) (λ v. search terms depth 20) refl)
-    ∙ sum-add (t .n) (λ j. pos (k .q) *ℤ (r .A j *ℤ t .Y j)) (λ j. k .a j *ℤ t .Y j)
-    ∙ ap (λ x. x +ℤ sum (t .n) (λ j. k .a j *ℤ t .Y j)) (sum-scale (pos (k .q)) (t .n) (λ j. r .A j *ℤ t .Y j))
+use Rattle.judge.specs.Changes.{Changes, Solve, Keep, Under, Possible, PossibleUnder, yielded}
 
 -- ---- changes need |R| within reach
 
@@ -36,7 +25,7 @@ module _ (r : Row) (t : Trial) (k : Changes) where
       let s = sum (t .n) (λ j. k .a j *ℤ t .Y j) in
       -- q R = Σ a(j) Y(j) − D c, from what makes the changed row exact
       let e : q *ℤ residual r t ≡ s -ℤ d *ℤ k .c =
-      poly-from (pos 1) (sym (changed-sum r t k) ∙ h .exact) (poly (q ∷ d ∷ S ∷ s ∷ r .b ∷ k .c ∷ []) (λ w. search terms depth 20) refl) in
+      poly-from (pos 1) (sym (sum-weighted q (t .n) (r .A) (k .a) (t .Y)) ∙ h .exact) (poly (q ∷ d ∷ S ∷ s ∷ r .b ∷ k .c ∷ []) (λ w. search terms depth 20) refl) in
       omega (
         arith,
         natAbs-*ℤ (pos (k .q)) (residual r t),
@@ -45,16 +34,12 @@ module _ (r : Row) (t : Trial) (k : Changes) where
         natAbs-*ℤ (pos (t .D)) (k .c),
       )
 
-  -- the sum of the changes is bounded like each of them
   module _ (u v : ℕ) (h : Under u v r t k) where
-    term : (j : ℕ) → j < t .n → v * natAbs (k .a j *ℤ t .Y j) ≤ u * k .q * (r .E j * natAbs (t .Y j))
-    term j l =
-        omega (arith, ap (λ x. v * x) (natAbs-*ℤ (k .a j) (t .Y j)), mul-le-mul-right (natAbs (t .Y j)) (h .coefficients j l))
-
+    -- the sum of the changes is bounded like each of them
     within : v * natAbs (sum (t .n) (λ j. k .a j *ℤ t .Y j)) ≤ u * k .q * total (t .n) (λ j. r .E j * natAbs (t .Y j))
     within =
-        le-trans (mul-le-mul-left v (sum-size (t .n) (λ j. k .a j *ℤ t .Y j)))
-        (total-within v (u * k .q) (t .n) (λ j. natAbs (k .a j *ℤ t .Y j)) (λ j. r .E j * natAbs (t .Y j)) term)
+        sum-within v (u * k .q) (t .n) _ _
+        (λ j l. omega (arith, ap (λ x. v * x) (natAbs-*ℤ (k .a j) (t .Y j)), mul-le-mul-right (natAbs (t .Y j)) (h .coefficients j l)))
 
     pub needed : Solve r t k → v * natAbs (residual r t) ≤ u * reach r t
     unfolding reach
@@ -64,25 +49,6 @@ module _ (r : Row) (t : Trial) (k : Changes) where
         (s .positive)
 
 -- ---- the changes that are yielded
-
-turned-size : (y x : ℤ) → natAbs (turned y x) ≤ natAbs x
-turned-size (pos zero) x = omega arith
-turned-size (pos (suc y)) x = omega arith
-turned-size (negsuc y) x = omega (arith, natAbs-negℤ x)
-
-turned-times : (y x : ℤ) → turned y x *ℤ y ≡ x *ℤ pos (natAbs y)
-turned-times (pos zero) x = poly (x ∷ []) (λ w. search terms depth 20) refl
-turned-times (pos (suc y)) x = refl
-turned-times (negsuc y) x = negℤ-*ℤ-negℤ x (pos (suc y))
-
--- Σ a(j) Y(j) = R Σ E(j) |Y(j)|
-yielded-sum : (r : Row) (t : Trial) (R : ℤ)
-    → sum (t .n) (λ j. turned (t .Y j) (pos (r .E j) *ℤ R) *ℤ t .Y j) ≡ R *ℤ pos (total (t .n) (λ j. r .E j * natAbs (t .Y j)))
-yielded-sum r t R =
-    sum-cong (t .n) _ _
-    (λ j l. turned-times (t .Y j) (pos (r .E j) *ℤ R) ∙ poly (R ∷ pos (r .E j) ∷ pos (natAbs (t .Y j)) ∷ []) (λ w. search terms depth 20) refl)
-    ∙ sum-scale R (t .n) (λ j. pos (r .E j * natAbs (t .Y j)))
-    ∙ ap (λ x. R *ℤ x) (sum-pos (t .n) (λ j. r .E j * natAbs (t .Y j)))
 
 module _ (r : Row) (t : Trial) where
   abbrev S′ : ℤ
@@ -98,7 +64,7 @@ module _ (r : Row) (t : Trial) where
       record {
         positive = omega arith;
         exact =
-            changed-sum r t (yielded r t (residual r t) 0)
+            sum-weighted (pos 1) (t .n) (r .A) _ (t .Y)
             ∙ ap (λ x. pos 1 *ℤ S′ +ℤ x) (sum-none (t .n) _ (λ j l. zero-*ℤ (t .Y j)))
             ∙ poly-from (pos 1) (z refl) (poly (pos (t .D) ∷ S′ ∷ r .b ∷ []) (λ w. search terms depth 20) refl);
       }
@@ -106,14 +72,10 @@ module _ (r : Row) (t : Trial) where
       record {
         positive = omega arith;
         exact =
-            changed-sum r t (yielded r t (residual r t) (suc T))
-            ∙ ap (λ x. pos (suc T) *ℤ S′ +ℤ x) (yielded-sum r t (residual r t))
+            sum-weighted (pos (suc T)) (t .n) (r .A) _ (t .Y)
+            ∙ ap (λ x. pos (suc T) *ℤ S′ +ℤ x) (sum-turned (residual r t) (t .n) (r .E) (t .Y))
             ∙ rw (← e) (poly (pos (t .D) ∷ pos (r .f) ∷ pos G′ ∷ r .b ∷ S′ ∷ []) (λ w. search terms depth 20) refl);
       }
-
-  -- a residual within reach is zero where the reach is
-  within-zero : (u v : ℕ) → 0 < v → v * natAbs (residual r t) ≤ u * reach r t → reach r t ≡ 0 → residual r t ≡ pos 0
-  within-zero u v p h e = natAbs-zero (residual r t) (omega (arith, mul-le-mul-right (natAbs (residual r t)) p, ap (λ x. u * x) e))
 
   pub yielded-solve : (reach r t ≡ 0 → residual r t ≡ pos 0) → Solve r t (yielded r t (residual r t) (reach r t))
   yielded-solve z = solve-at (reach r t) refl z
@@ -154,7 +116,7 @@ module _ (r : Row) (t : Trial) where
     λ k. needed r t (k .changes) u v (k .under) (k .solve),
     λ h. record {
       changes = yielded r t (residual r t) (reach r t);
-      solve = yielded-solve (within-zero u v p h);
+      solve = yielded-solve (natAbs-within-zero (residual r t) (reach r t) u v p h);
       under = yielded-under u v h;
     },
   )
@@ -163,7 +125,7 @@ module _ (r : Row) (t : Trial) where
   pub yielded-keep : natAbs (residual r t) ≤ reach r t
       → Solve r t (yielded r t (residual r t) (reach r t)) × Keep r t (yielded r t (residual r t) (reach r t))
   yielded-keep h = (
-    yielded-solve (within-zero 1 1 (omega arith) (omega arith)),
+    yielded-solve (natAbs-within-zero (residual r t) (reach r t) 1 1 (omega arith) (omega arith)),
     under-keep (yielded r t (residual r t) (reach r t)) (yielded-under 1 1 (omega arith)),
   )
 

@@ -4,7 +4,7 @@ use native.Mathlib.Nat.{mul-le-mul, mul-le-mul-left}
 use native.Mathlib.Omega.{arith}
 use lib.ListN.{getD}
 use lib.IntN.{ℤ, pos, natAbs, _*ℤ_}
-use Rattle.integers.specs.Size.{natAbs-*ℤ, natAbs-subℤ}
+use Rattle.integers.specs.Size.{natAbs-*ℤ, natAbs-subℤ, product-ok}
 use Rattle.integers.specs.Sums.{sum, sum-bound, total-bound}
 use Rattle.integers.specs.Tables.{all-filled}
 use Rattle.judge.specs.System.{System, Trial, row, residual, reach}
@@ -15,9 +15,6 @@ module _ (s : System) (t : Trial) (a b y : ℕ)
     (coefficients : (j : ℕ) → natAbs (getD (s .coefficients) j (pos 0)) ≤ a)
     (right-sides : (j : ℕ) → natAbs (getD (s .right-sides) j (pos 0)) ≤ b)
     (figures : (j : ℕ) → natAbs (t .Y j) ≤ y) where
-  term-le : (i j : ℕ) → natAbs (row s i .A j *ℤ t .Y j) ≤ a * y
-  term-le i j = omega (arith, natAbs-*ℤ (row s i .A j) (t .Y j), mul-le-mul (coefficients (i * s .n + j)) (figures j))
-
   pub residual-size : (i : ℕ) → natAbs (residual (row s i) t) ≤ t .D * b + t .n * (a * y)
   unfolding residual
   residual-size i =
@@ -26,7 +23,7 @@ module _ (s : System) (t : Trial) (a b y : ℕ)
         natAbs-subℤ (pos (t .D) *ℤ row s i .b) (sum (t .n) (λ j. row s i .A j *ℤ t .Y j)),
         natAbs-*ℤ (pos (t .D)) (row s i .b),
         mul-le-mul-left (t .D) (right-sides i),
-        sum-bound (t .n) (a * y) (λ j. row s i .A j *ℤ t .Y j) (λ j l. term-le i j),
+        sum-bound (t .n) (a * y) (λ j. row s i .A j *ℤ t .Y j) (λ j l. product-ok (row s i .A j) (t .Y j) a y (coefficients (i * s .n + j)) (figures j)),
       )
 
   -- the same of every residual that a standing holds

@@ -8,6 +8,7 @@ use borrow.Author.Tests.{leb-true, leb-false, eqb-true, eqb-false, ne-eqb}
 use lib.Dec.{eqb}
 use lib.IntN.{ℤ, natAbs}
 use Rattle.fractions.specs.Fraction.{below}
+use Rattle.fractions.specs.Laws.{cross-from-base, cross-to-base}
 use Rattle.fractions.specs.Greatest.{First, first-greatest-is}
 use Rattle.judge.specs.System.{System, Trial, row, residual, reach}
 use Rattle.judge.specs.Changes.{Possible}
@@ -16,18 +17,6 @@ use Rattle.judge.specs.Laws.{Fails, first-not-zero, first-not-suc}
 use Rattle.judge.specs.Agreement.{judgement-agrees}
 use Rattle.judge.specs.OettliPrager.{oettli-prager, within-tolerances, yielded-keep}
 use Rattle.judge.specs.Finding.{Finding, finding, factor-num, AllPossible, AllUnder, FirstImpossible, Least, Yields, Justified, Agrees}
-
--- ---- two fractions: v a ≤ u b, from and to the order, where 0 / 0 reads as 0 / 1
-
-from-order : (a b u v : ℕ) → a * v ≤ u * below a b → v * a ≤ u * b
-from-order zero zero u v h = omega arith
-from-order zero (suc b) u v h = omega arith
-from-order (suc a) b u v h = omega arith
-
-to-order : (a b u v : ℕ) → v * a ≤ u * b → a * v ≤ u * below a b
-to-order zero zero u v h = omega arith
-to-order zero (suc b) u v h = omega arith
-to-order (suc a) b u v h = omega arith
 
 -- a fraction with a factor is proper; one without has a numerator over 0
 proper : (a b : ℕ) → eqb b 0 && not (eqb a 0) ≡ false → 0 < below a b
@@ -119,9 +108,9 @@ module _ (s : System) (t : Trial) where
           proper = v;
           attained = λ i l.
               oettli-prager (row s i) t (natAbs (R d)) (below (natAbs (R d)) (T d)) v .1
-              (from-order (natAbs (R i)) (T i) (natAbs (R d)) (below (natAbs (R d)) (T d)) (greatest .greatest i l));
+              (cross-from-base (natAbs (R i)) (T i) (natAbs (R d)) (below (natAbs (R d)) (T d)) (greatest .greatest i l));
           least = λ u′ v′ v′-pos all.
-              to-order (natAbs (R d)) (T d) u′ v′ (oettli-prager (row s d) t u′ v′ v′-pos .0 (all d (greatest .place)));
+              cross-to-base (natAbs (R d)) (T d) u′ v′ (oettli-prager (row s d) t u′ v′ v′-pos .0 (all d (greatest .place)));
         }
 
     hopeless : no-factor (R d) (T d) ≡ true → (u v : ℕ) → 0 < v → ¬ AllUnder u v s t

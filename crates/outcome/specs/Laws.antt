@@ -1,14 +1,14 @@
--- Laws of refusals and their numbers, and of checks in sequence.
-use mathlib.Core.Path.{_≡_, refl}
+-- Laws of refusals and their numbers, of answers that cannot be both, and of checks in sequence.
+use mathlib.Core.Path.{_≡_, refl, sym, ap, _∙_}
 use mathlib.Core.Bool.{Bool, true, false}
-use mathlib.Core.List.{[], _∷_, map}
 use Prim.Native.Nat.{ℕ}
 use native.Mathlib.Omega.{arith}
 use Rattle.outcome.specs.declared.Refusal.{Refusal}
 use Rattle.outcome.specs.declared.Refusal.the-variants.{BufferTooShort, FieldMissing, WrongTag, WrongLength, ValueCutShort, OutsideLimits, TrailingBytes, ZeroPivot, OutsideRange}
+use Rattle.outcome.specs.declared.Outcome.the-variants.{Count, Refused as RefusedBy}
 use Rattle.outcome.specs.declared.Status.{Status}
 use Rattle.outcome.specs.declared.Status.the-variants.{Accepted, Refused}
-use Rattle.outcome.specs.Outcome.{numberOf, refusals, refusalOf, check, first}
+use Rattle.outcome.specs.Outcome.{numberOf, refusalOf, check, first}
 
 -- each refusal has a number of its own
 pub refusal-of-number : (r : Refusal) → refusalOf (numberOf r) ≡ r
@@ -22,28 +22,39 @@ refusal-of-number TrailingBytes = refl
 refusal-of-number ZeroPivot = refl
 refusal-of-number OutsideRange = refl
 
--- and their numbers are 1 to 9, in their order
-pub numbers-in-order : map numberOf refusals ≡ 1 ∷ 2 ∷ 3 ∷ 4 ∷ 5 ∷ 6 ∷ 7 ∷ 8 ∷ 9 ∷ []
-numbers-in-order = refl
+-- ---- an answer is one of its kinds
+
+pub not-both : {P : Type 0} (s : Status) (r : Refusal) → s ≡ Refused r → s ≡ Accepted → P
+not-both s r e g = let z : _≡_ {A = ℕ} 0 1 = cc in absurd (omega arith)
+
+pub no-count : {P : Type 0} (r : Refusal) (m : ℕ) → RefusedBy r ≡ Count m → P
+no-count r m e = let z : _≡_ {A = ℕ} 0 1 = cc in absurd (omega arith)
 
 -- ---- checks
 
 pub check-accepted : (b : Bool) (r : Refusal) → check b r ≡ Accepted → b ≡ true
 check-accepted true r e = refl
-check-accepted false r e = let z : _≡_ {A = ℕ} 0 1 = cc in absurd (omega arith)
+check-accepted false r e = not-both (Refused r) r refl e
 
 pub first-accepted : (s t : Status) → first s t ≡ Accepted → (s ≡ Accepted) × (t ≡ Accepted)
 first-accepted Accepted t e = (refl, e)
-first-accepted (Refused r) t e = let z : _≡_ {A = ℕ} 0 1 = cc in absurd (omega arith)
-
-pub not-both : {P : Type 0} (s : Status) (r : Refusal) → s ≡ Refused r → s ≡ Accepted → P
-not-both s r e g = let z : _≡_ {A = ℕ} 0 1 = cc in absurd (omega arith)
+first-accepted (Refused r) t e = not-both (Refused r) r refl e
 
 -- what a check that refused, or passed, makes of the first of two
 pub first-stops : (s t : Status) (r : Refusal) → s ≡ Refused r → s ≡ first s t
-first-stops Accepted t r e = let z : _≡_ {A = ℕ} 0 1 = cc in absurd (omega arith)
+first-stops Accepted t r e = not-both Accepted r e refl
 first-stops (Refused q) t r e = refl
 
 pub first-goes-on : (s t : Status) → s ≡ Accepted → t ≡ first s t
 first-goes-on Accepted t e = refl
-first-goes-on (Refused q) t e = let z : _≡_ {A = ℕ} 0 1 = cc in absurd (omega arith)
+first-goes-on (Refused q) t e = not-both (Refused q) q refl e
+
+-- the same where x is what the first of the two gave, and the second is a test
+pub stops : {x s : Status} {r : Refusal} (t : Status) → x ≡ s → x ≡ Refused r → x ≡ first s t
+stops t e g = e ∙ first-stops _ t _ (sym e ∙ g)
+
+pub goes-on : {x s : Status} {b c : Bool} (r : Refusal) → x ≡ s → x ≡ Accepted → b ≡ c → check c r ≡ first s (check b r)
+goes-on r e g h = sym (ap (λ (b : Bool). check b r) h) ∙ first-goes-on _ _ (sym e ∙ g)
+
+pub first-check : (s : Status) (b : Bool) (r : Refusal) → first s (check b r) ≡ Accepted → (s ≡ Accepted) × (b ≡ true)
+first-check s b r e = let w = first-accepted s (check b r) e in (w .0, check-accepted b r (w .1))

@@ -2,17 +2,17 @@
 use mathlib.Core.Path.{_≡_}
 use mathlib.Core.Bool.{Bool, true, false}
 use mathlib.Core.List.{List, [], _∷_, _++_}
-use Prim.Native.Nat.{ℕ, zero, suc, _+_, _*_, _≤_, _<_}
+use Prim.Native.Nat.{ℕ, _+_, _*_, _≤_, _<_}
 use lib.ListN.{getD}
 use lib.IntN.{ℤ, pos}
 use mir.Syntax.{w32, w64}
 use mir.Val.{ofZ}
 use Rattle.bigendian.specs.Number.{bytes}
-use Rattle.buffer.specs.Buffer.{onto}
-use Rattle.fields.specs.Field.{field}
+use Rattle.buffer.specs.Buffer.{onto, run}
+use Rattle.fields.specs.Field.{headerSize, field, endField}
 use Rattle.judge.specs.declared.Judgement.{Judgement}
 
--- the tags 10, 11, 12, 13 and FF, hexadecimal
+-- the tags 10, 11, 12 and 13, hexadecimal
 abbrev pub verdictTag : ℕ
 verdictTag = 0x10
 
@@ -25,33 +25,59 @@ rowsTag = 0x12
 abbrev pub factorTag : ℕ
 factorTag = 0x13
 
-abbrev pub endTag : ℕ
-endTag = 0xFF
+-- lengths of the values of n figures and rows: "residual (8 bytes, signed) and reach (8 bytes, unsigned)" for each row
+abbrev pub verdictLength : ℕ
+verdictLength = 3
+
+abbrev pub answerLength : ℕ → ℕ
+answerLength n = 4 * n
+
+abbrev pub pairSize : ℕ
+pairSize = 16
+
+abbrev pub rowsLength : ℕ → ℕ
+rowsLength n = pairSize * n
+
+abbrev pub factorLength : ℕ
+factorLength = 2
+
+-- where the fields begin: the first at 0, each other one behind the one before it
+abbrev pub answerAt : ℕ
+answerAt = headerSize + verdictLength
+
+abbrev pub rowsAt : ℕ → ℕ
+rowsAt n = answerAt + headerSize + answerLength n
+
+abbrev pub factorAt : ℕ → ℕ
+factorAt n = rowsAt n + headerSize + rowsLength n
+
+abbrev pub endAt : ℕ → ℕ
+endAt n = factorAt n + headerSize + factorLength
 
 abbrev pub flag : Bool → ℕ
 flag true = 1
 flag false = 0
 
--- "residual (8 bytes, signed) and reach (8 bytes, unsigned)"
 abbrev pub pair : ℤ → ℕ → List ℕ
 pair R T = bytes 8 (ofZ w64 R) ++ bytes 8 T
-
--- the pieces 0 to n − 1, one behind the other
-unfoldable pub run : ℕ → (ℕ → List ℕ) → List ℕ
-run zero piece = []
-run (suc n) piece = run n piece ++ piece n
 
 -- "1 for met or 0 for not met; the first unmet row or 0; rounds used"
 abbrev pub verdictField : Bool → ℕ → ℕ → List ℕ
 verdictField met unmet rounds = field verdictTag (flag met ∷ unmet ∷ rounds ∷ [])
 
 -- "the answer, 4 bytes each": the first n figures of Y
+abbrev pub figureAt : List ℤ → ℕ → List ℕ
+figureAt Y j = bytes 4 (ofZ w32 (getD Y j (pos 0)))
+
 abbrev pub answerField : ℕ → List ℤ → List ℕ
-answerField n Y = field answerTag (run n (λ j. bytes 4 (ofZ w32 (getD Y j (pos 0)))))
+answerField n Y = field answerTag (run n (figureAt Y))
 
 -- "Each row's pair is written into that row's sixteen bytes"
+abbrev pub pairAt : List ℤ → List ℕ → ℕ → List ℕ
+pairAt R T i = pair (getD R i (pos 0)) (getD T i 0)
+
 abbrev pub rowsField : ℕ → List ℤ → List ℕ → List ℕ
-rowsField n R T = field rowsTag (run n (λ i. pair (getD R i (pos 0)) (getD T i 0)))
+rowsField n R T = field rowsTag (run n (pairAt R T))
 
 -- "0 for a factor or 1 for none; the row that decides"
 abbrev pub factorField : Bool → ℕ → List ℕ
@@ -66,11 +92,14 @@ judgedFields n rounds Y j =
 
 -- and the end field
 unfoldable pub recordOf : ℕ → ℕ → List ℤ → Judgement → List ℕ
-recordOf n rounds Y j = judgedFields n rounds Y j ++ field endTag []
+recordOf n rounds Y j = judgedFields n rounds Y j ++ endField
 
--- "It has 20 + 20n bytes"
+-- "It has 20 + 20n bytes, at most 180"
 abbrev pub recordLength : ℕ → ℕ
 recordLength n = 20 + 20 * n
+
+abbrev pub longestRecord : ℕ
+longestRecord = 180
 
 -- what the writer of a record asks: at most 8 rows, rows and rounds of a byte each, and room
 pub record Holds (n rounds : ℕ) (j : Judgement) (room : ℕ) : Type 0 where

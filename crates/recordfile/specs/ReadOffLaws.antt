@@ -1,9 +1,8 @@
 -- What is read off a record is what was written into it. Assumes nothing.
 use mathlib.Core.Path.{_≡_, refl, sym, ap, ap₂, _∙_}
 use mathlib.Core.Bool.{Bool, true, false}
-use mathlib.Core.List.{List, [], _++_, append-assoc}
-use Prim.Native.Nat.{ℕ, zero, suc, _+_, _*_, _^_, _<_}
-use native.Mathlib.Decide.{ℕ-discrete}
+use mathlib.Core.List.{List, _++_, append-assoc}
+use Prim.Native.Nat.{ℕ, _+_, _*_, _^_, _<_}
 use native.Mathlib.Omega.{arith}
 use lib.Dec.{eqb}
 use lib.ListN.{length, getD, take, drop}
@@ -14,11 +13,13 @@ use mir.Val.{SFits, toZ, ofZ}
 use mir.Facts.{toZ-ofZ, fits-ofZ}
 use Rattle.bigendian.specs.Number.{be, bytes}
 use Rattle.bigendian.specs.NumberLaws.{length-bytes, be-bytes}
-use Rattle.fields.specs.Field.{field, header}
+use Rattle.buffer.specs.Buffer.{run}
+use Rattle.buffer.specs.RunLaws.{Piece, run-piece}
+use Rattle.fields.specs.Field.{headerSize, field, header, endField}
 use Rattle.fields.specs.FieldLaws.{length-header}
 use Rattle.judge.specs.declared.Judgement.{Judgement}
-use Rattle.recordfile.specs.Layout.{flag, pair, run, verdictField, answerField, rowsField, factorField, judgedFields, recordOf, endTag}
-use Rattle.recordfile.specs.Laws.{length-pair, length-run, length-two, length-three, length-verdict}
+use Rattle.recordfile.specs.Layout.{answerTag, rowsTag, pairSize, answerAt, rowsAt, factorAt, flag, figureAt, pairAt, answerField, rowsField, factorField, judgedFields, recordOf}
+use Rattle.recordfile.specs.Laws.{first-one, first-two, first-three, length-figure, length-pair, length-one, length-two, length-three}
 use Rattle.recordfile.specs.ReadOff.{number, recordedRounds, recordedAnswer, recordedFinding}
 
 -- ---- numbers at places
@@ -30,25 +31,6 @@ number-behind w at k p q e = ap (λ l. be (take w l)) (sym (drop-drop k at (p ++
 -- at the front
 number-front : (w x : ℕ) (q : List ℕ) → x < 256 ^ w → number w 0 (bytes w x ++ q) ≡ x
 number-front w x q h = ap be (take-at (bytes w x) q w (length-bytes w x)) ∙ be-bytes w x h
-
--- piece i of a run stands at w i, with something behind it
-pub record Piece (w i : ℕ) (piece : ℕ → List ℕ) (l : List ℕ) : Type 0 where
-  pub behind : List ℕ
-  pub here : drop (w * i) l ≡ piece i ++ behind
-
-module _ (w : ℕ) (piece : ℕ → List ℕ) (each : (i : ℕ) → length (piece i) ≡ w) where
-  run-piece : (n i : ℕ) (rest : List ℕ) → i < n → Piece w i piece (run n piece ++ rest)
-  unfolding run
-  run-piece zero i rest h = absurd (omega arith)
-  run-piece (suc n) i rest h = go (ℕ-discrete i n) (λ l. run-piece n i (piece n ++ rest) l)
-    where
-      go : Dec (i ≡ n) → (i < n → Piece w i piece (run n piece ++ (piece n ++ rest))) → Piece w i piece ((run n piece ++ piece n) ++ rest)
-      go (yes e) r =
-          record {
-            behind = rest;
-            here = rw (append-assoc, e) (drop-at (run n piece) (piece n ++ rest) (w * n) (length-run w piece each n));
-          }
-      go (no f) r = rw append-assoc (r (omega arith))
 
 -- a number k bytes into piece i
 piece-number : (u w i k : ℕ) (piece : ℕ → List ℕ) (l : List ℕ) (p : Piece w i piece l) → number u (w * i + k) l ≡ number u k (piece i ++ p .behind)
@@ -84,55 +66,51 @@ module _ (n rounds : ℕ) (Y : List ℤ) (j : Judgement) where
 
   -- the whole, part by part
   abbrev W : List ℕ
-  W = verdictField (j .met) (j .unmet) rounds
+  W = first-one n rounds Y j
+
+  abbrev WA : List ℕ
+  WA = first-two n rounds Y j
 
   abbrev figures : List ℕ
-  figures = run n (λ i. bytes 4 (ofZ w32 (getD Y i (pos 0))))
+  figures = run n (figureAt Y)
 
   abbrev pairs : List ℕ
-  pairs = run n (λ i. pair (R i) (T i))
+  pairs = run n (pairAt (j .residuals) (j .reaches))
 
   abbrev last : List ℕ
-  last = factorField (j .none) (j .decides) ++ field endTag []
+  last = factorField (j .none) (j .decides) ++ endField
 
-  from-answer : recordOf n rounds Y j ≡ W ++ (header 17 (length figures) ++ (figures ++ (rowsField n (j .residuals) (j .reaches) ++ last)))
+  from-answer : recordOf n rounds Y j ≡ W ++ (header answerTag (length figures) ++ (figures ++ (rowsField n (j .residuals) (j .reaches) ++ last)))
   unfolding recordOf judgedFields field
   from-answer =
       let rows = rowsField n (j .residuals) (j .reaches) in
-      regroup W (answerField n Y) rows (factorField (j .none) (j .decides)) (field endTag [])
+      regroup W (answerField n Y) rows (factorField (j .none) (j .decides)) endField
       ∙ append-assoc W (answerField n Y) (rows ++ last)
-      ∙ ap (λ l. W ++ l) (append-assoc (header 17 (length figures)) figures (rows ++ last))
+      ∙ ap (λ l. W ++ l) (append-assoc (header answerTag (length figures)) figures (rows ++ last))
 
-  from-rows : recordOf n rounds Y j ≡ (W ++ answerField n Y) ++ (header 18 (length pairs) ++ (pairs ++ last))
+  from-rows : recordOf n rounds Y j ≡ WA ++ (header rowsTag (length pairs) ++ (pairs ++ last))
   unfolding recordOf judgedFields field
   from-rows =
-      regroup W (answerField n Y) (rowsField n (j .residuals) (j .reaches)) (factorField (j .none) (j .decides)) (field endTag [])
-      ∙ ap (λ l. (W ++ answerField n Y) ++ l) (append-assoc (header 18 (length pairs)) pairs last)
+      regroup W (answerField n Y) (rowsField n (j .residuals) (j .reaches)) (factorField (j .none) (j .decides)) endField
+      ∙ ap (λ l. WA ++ l) (append-assoc (header rowsTag (length pairs)) pairs last)
 
-  from-factor : recordOf n rounds Y j ≡ ((W ++ answerField n Y) ++ rowsField n (j .residuals) (j .reaches)) ++ last
+  from-factor : recordOf n rounds Y j ≡ first-three n rounds Y j ++ last
   unfolding recordOf judgedFields
   from-factor =
-      append-assoc ((W ++ answerField n Y) ++ rowsField n (j .residuals) (j .reaches)) (factorField (j .none) (j .decides)) (field endTag [])
-
-  two : length (W ++ answerField n Y) ≡ 9 + 4 * n
-  two = length-two (j .met) (j .none) (j .unmet) rounds (j .decides) n Y (j .residuals) (j .reaches)
-
-  three : length ((W ++ answerField n Y) ++ rowsField n (j .residuals) (j .reaches)) ≡ 12 + 20 * n
-  three = length-three (j .met) (j .none) (j .unmet) rounds (j .decides) n Y (j .residuals) (j .reaches)
+      append-assoc (first-three n rounds Y j) (factorField (j .none) (j .decides)) endField
 
   -- ---- field 11
 
   pub recorded-answer : (i : ℕ) → i < n → SFits w32 (getD Y i (pos 0)) → recordedAnswer (recordOf n rounds Y j) i ≡ getD Y i (pos 0)
   recorded-answer i h f =
-      let piece : ℕ → List ℕ = λ k. bytes 4 (ofZ w32 (getD Y k (pos 0))) in
       let rest = rowsField n (j .residuals) (j .reaches) ++ last in
-      let p = run-piece 4 piece (λ k. length-bytes 4 (ofZ w32 (getD Y k (pos 0)))) n i rest h in
-      let e : 9 + 4 * i ≡ 6 + (3 + (4 * i + 0)) = omega arith in
+      let p = run-piece 4 (figureAt Y) (length-figure Y) n i rest h in
+      let e : answerAt + headerSize + 4 * i ≡ answerAt + (headerSize + (4 * i + 0)) = omega arith in
       ap (toZ w32)
       (ap₂ (λ k l. number 4 k l) e from-answer
-      ∙ number-behind 4 6 (3 + (4 * i + 0)) W (header 17 (length figures) ++ (figures ++ rest)) (length-verdict (j .met) (j .none) (j .unmet) rounds (j .decides) n Y (j .residuals) (j .reaches))
-      ∙ number-behind 4 3 (4 * i + 0) (header 17 (length figures)) (figures ++ rest) (length-header 17 (length figures))
-      ∙ piece-number 4 4 i 0 piece (figures ++ rest) p
+      ∙ number-behind 4 answerAt (headerSize + (4 * i + 0)) W (header answerTag (length figures) ++ (figures ++ rest)) (length-one n rounds Y j)
+      ∙ number-behind 4 headerSize (4 * i + 0) (header answerTag (length figures)) (figures ++ rest) (length-header answerTag (length figures))
+      ∙ piece-number 4 4 i 0 (figureAt Y) (figures ++ rest) p
       ∙ number-front 4 (ofZ w32 (getD Y i (pos 0))) (p .behind) (fits-ofZ {w = w32} f .fits))
       ∙ toZ-ofZ f
 
@@ -140,23 +118,22 @@ module _ (n rounds : ℕ) (Y : List ℤ) (j : Judgement) where
 
   module _ (i : ℕ) (h : i < n) where
     abbrev piece : ℕ → List ℕ
-    piece k = pair (R k) (T k)
+    piece = pairAt (j .residuals) (j .reaches)
 
-    here : Piece 16 i piece (pairs ++ last)
-    here = run-piece 16 piece (λ k. length-pair (R k) (T k)) n i last h
+    here : Piece pairSize i piece (pairs ++ last)
+    here = run-piece pairSize piece (length-pair (j .residuals) (j .reaches)) n i last h
 
     -- k bytes into row i's pair
-    row-number : (k : ℕ) → number 8 (12 + 4 * n + (16 * i + k)) (recordOf n rounds Y j) ≡ number 8 k (piece i ++ here .behind)
+    row-number : (k : ℕ) → number 8 (rowsAt n + (headerSize + (pairSize * i + k))) (recordOf n rounds Y j) ≡ number 8 k (piece i ++ here .behind)
     row-number k =
-        let e : 12 + 4 * n + (16 * i + k) ≡ 9 + 4 * n + (3 + (16 * i + k)) = omega arith in
-        ap₂ (λ m l. number 8 m l) e from-rows
-        ∙ number-behind 8 (9 + 4 * n) (3 + (16 * i + k)) (W ++ answerField n Y) (header 18 (length pairs) ++ (pairs ++ last)) two
-        ∙ number-behind 8 3 (16 * i + k) (header 18 (length pairs)) (pairs ++ last) (length-header 18 (length pairs))
-        ∙ piece-number 8 16 i k piece (pairs ++ last) here
+        ap (number 8 (rowsAt n + (headerSize + (pairSize * i + k)))) from-rows
+        ∙ number-behind 8 (rowsAt n) (headerSize + (pairSize * i + k)) WA (header rowsTag (length pairs) ++ (pairs ++ last)) (length-two n rounds Y j)
+        ∙ number-behind 8 headerSize (pairSize * i + k) (header rowsTag (length pairs)) (pairs ++ last) (length-header rowsTag (length pairs))
+        ∙ piece-number 8 pairSize i k piece (pairs ++ last) here
 
     pub recorded-residual : SFits w64 (R i) → recordedFinding n (recordOf n rounds Y j) .R i ≡ R i
     recorded-residual f =
-        let e : 12 + 4 * n + 16 * i ≡ 12 + 4 * n + (16 * i + 0) = omega arith in
+        let e : rowsAt n + headerSize + pairSize * i ≡ rowsAt n + (headerSize + (pairSize * i + 0)) = omega arith in
         ap (toZ w64)
         (ap (λ m. number 8 m (recordOf n rounds Y j)) e
         ∙ row-number 0
@@ -166,7 +143,7 @@ module _ (n rounds : ℕ) (Y : List ℤ) (j : Judgement) where
 
     pub recorded-reach : T i < 256 ^ 8 → recordedFinding n (recordOf n rounds Y j) .T i ≡ T i
     recorded-reach f =
-        let e : 20 + 4 * n + 16 * i ≡ 12 + 4 * n + (16 * i + 8) = omega arith in
+        let e : rowsAt n + headerSize + pairSize * i + 8 ≡ rowsAt n + (headerSize + (pairSize * i + 8)) = omega arith in
         ap (λ m. number 8 m (recordOf n rounds Y j)) e
         ∙ row-number 8
         ∙ ap (number 8 8) (append-assoc (bytes 8 (ofZ w64 (R i))) (bytes 8 (T i)) (here .behind))
@@ -175,19 +152,17 @@ module _ (n rounds : ℕ) (Y : List ℤ) (j : Judgement) where
 
   -- ---- field 13
 
-  last-byte : (k : ℕ) → getD (recordOf n rounds Y j) (12 + 20 * n + k) 0 ≡ getD last k 0
+  last-byte : (k : ℕ) → getD (recordOf n rounds Y j) (factorAt n + k) 0 ≡ getD last k 0
   last-byte k =
-      rw (from-factor, ← three)
-      (getD-append-add ((W ++ answerField n Y) ++ rowsField n (j .residuals) (j .reaches)) last k 0)
+      rw (from-factor, ← (length-three n rounds Y j)) (getD-append-add (first-three n rounds Y j) last k 0)
 
   pub recorded-none : recordedFinding n (recordOf n rounds Y j) .none ≡ j .none
   unfolding field bytes
   recorded-none =
-      let e : 15 + 20 * n ≡ 12 + 20 * n + 3 = omega arith in
-      ap (λ k. eqb (getD (recordOf n rounds Y j) k 0) 1) e ∙ ap (λ x. eqb x 1) (last-byte 3) ∙ flag-eqb (j .none)
+      ap (λ x. eqb x 1) (last-byte headerSize) ∙ flag-eqb (j .none)
 
   pub recorded-decides : recordedFinding n (recordOf n rounds Y j) .decides ≡ j .decides
   unfolding field bytes
   recorded-decides =
-      let e : 16 + 20 * n ≡ 12 + 20 * n + 4 = omega arith in
-      ap (λ k. getD (recordOf n rounds Y j) k 0) e ∙ last-byte 4
+      let e : factorAt n + headerSize + 1 ≡ factorAt n + (headerSize + 1) = omega arith in
+      ap (λ k. getD (recordOf n rounds Y j) k 0) e ∙ last-byte (headerSize + 1)

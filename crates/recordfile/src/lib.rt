@@ -1,13 +1,11 @@
 // The record of a judged answer, as bytes.
 ghost use mathlib.Core.Path.{_≡_};
-ghost use Prim.Native.Nat.{_+_, _*_, _≤_};
-ghost use lib.ListN.{length, getD};
-ghost use lib.IntN.{pos};
-ghost use mir.Syntax.{w32};
-ghost use mir.Val.{ofZ};
-ghost use Rattle.bigendian.specs.Number.{bytes};
-ghost use Rattle.buffer.specs.Buffer.{onto};
-ghost use Rattle.recordfile.specs.Layout.{flag as flagOf, pair, run, verdictField, answerField, rowsField, factorField, judgedFields, Holds, Written};
+ghost use Prim.Native.Nat.{_+_, _≤_};
+ghost use lib.ListN.{length};
+ghost use Rattle.buffer.specs.Buffer.{onto, run};
+ghost use Rattle.fields.specs.Field.{headerSize};
+ghost use Rattle.recordfile.specs.Layout.{answerLength, rowsLength, factorLength, answerAt, rowsAt, factorAt, endAt, flag as flagOf, pair, pairAt, pairSize, verdictField, answerField, rowsField, factorField, judgedFields, Holds, Written};
+use fields::HEADER_SIZE;
 use judge::Judgement;
 
 // Document 01, "Layout of case and record".
@@ -19,9 +17,63 @@ pub const ROWS_TAG: u8 = 18;
 
 pub const FACTOR_TAG: u8 = 19;
 
-pub const END_TAG: u8 = 255;
-
 pub const LONGEST_RECORD: usize = 180;
+
+// Where a verdict's and a factor's parts stand in their fields.
+const MET_AT: usize = HEADER_SIZE;
+
+const UNMET_AT: usize = HEADER_SIZE + 1;
+
+const ROUNDS_AT: usize = HEADER_SIZE + 2;
+
+const NONE_AT: usize = HEADER_SIZE;
+
+const DECIDES_AT: usize = HEADER_SIZE + 1;
+
+// Lengths of values.
+const VERDICT_LENGTH: u16 = 3;
+
+const FACTOR_LENGTH: u16 = 2;
+
+const PAIR_SIZE: usize = 16;
+
+fn answer_length(n: usize) -> usize
+    requires { ⌜ n ≤ 8 ⌝ }
+    ensures { λ r. ⌜ r ≡ answerLength n ⌝ }
+{
+    4 * n
+}
+
+fn rows_length(n: usize) -> usize
+    requires { ⌜ n ≤ 8 ⌝ }
+    ensures { λ r. ⌜ r ≡ rowsLength n ⌝ }
+{
+    PAIR_SIZE * n
+}
+
+// Where the fields behind the verdict begin in a record of n figures and rows.
+const ANSWER_AT: usize = HEADER_SIZE + VERDICT_LENGTH as usize;
+
+fn rows_at(n: usize) -> usize
+    requires { ⌜ n ≤ 8 ⌝ }
+    ensures { λ r. ⌜ r ≡ rowsAt n ⌝ }
+{
+    ANSWER_AT + HEADER_SIZE + answer_length(n)
+}
+
+fn factor_at(n: usize) -> usize
+    requires { ⌜ n ≤ 8 ⌝ }
+    ensures { λ r. ⌜ r ≡ factorAt n ⌝ }
+{
+    rows_at(n) + HEADER_SIZE + rows_length(n)
+}
+
+fn end_at(n: usize) -> usize
+    requires { ⌜ n ≤ 8 ⌝ }
+    ensures { λ r. ⌜ r ≡ endAt n ⌝ }
+{
+    factor_at(n) + HEADER_SIZE + FACTOR_LENGTH as usize
+}
 
 fn flag(b: bool) -> u8
     ensures { λ r. ⌜ r ≡ flagOf b ⌝ }
@@ -31,19 +83,19 @@ fn flag(b: bool) -> u8
 
 // Field 10, over the front of out.
 fn write_verdict(out: &mut [u8], met: bool, unmet: u8, rounds: u8)
-    requires { ⌜ 6 ≤ length (now out) ⌝ }
+    requires { ⌜ answerAt ≤ length (now out) ⌝ }
     ensures { λ _. ⌜ now (out .exit) ≡ onto (verdictField met unmet rounds) (now (out .entry)) ⌝ }
 {
     let m = flag(met);
-    fields::write_header(out, VERDICT_TAG, 3);
-    out[3] = m;
-    out[4] = unmet;
-    out[5] = rounds;
+    fields::write_header(out, VERDICT_TAG, VERDICT_LENGTH);
+    out[MET_AT] = m;
+    out[UNMET_AT] = unmet;
+    out[ROUNDS_AT] = rounds;
 }
 
-// A row's residual and reach, over the front of that row's sixteen bytes.
+// A row's residual and reach, over the front of that row's bytes.
 fn write_pair(out: &mut [u8], residual: i64, reach: u64)
-    requires { ⌜ 16 ≤ length (now out) ⌝ }
+    requires { ⌜ pairSize ≤ length (now out) ⌝ }
     ensures { λ _. ⌜ now (out .exit) ≡ onto (pair residual reach) (now (out .entry)) ⌝ }
 {
     bigendian::write_i64(out, residual);
@@ -52,63 +104,48 @@ fn write_pair(out: &mut [u8], residual: i64, reach: u64)
 
 // The pairs of n rows, each lent its part of out.
 fn write_pairs<'a>(out: &mut [u8], n: usize, residuals: &'a [i64; 8], reaches: &'a [u64; 8])
-    requires { ⌜ (n ≤ 8) × (16 * n ≤ length (now out)) ⌝ }
-    ensures { λ _. ⌜ now (out .exit) ≡ onto (run n (λ i. pair (getD (now (residuals .entry)) i (pos 0)) (getD (now (reaches .entry)) i 0))) (now (out .entry)) ⌝ }
+    requires { ⌜ (n ≤ 8) × (rowsLength n ≤ length (now out)) ⌝ }
+    ensures { λ _. ⌜ now (out .exit) ≡ onto (run n (pairAt (now (residuals .entry)) (now (reaches .entry)))) (now (out .entry)) ⌝ }
 {
     let mut i = 0;
     let mut at = 0;
     while i < n {
         write_pair(&mut out[at..], residuals[i], reaches[i]);
         i += 1;
-        at += 16;
-    }
-}
-
-// The n figures of an answer.
-fn write_figures(out: &mut [u8], n: usize, answer: &[i32; 8])
-    requires { ⌜ (n ≤ 8) × (4 * n ≤ length (now out)) ⌝ }
-    ensures { λ _. ⌜ now (out .exit) ≡ onto (run n (λ j. bytes 4 (ofZ w32 (getD (now (answer .entry)) j (pos 0))))) (now (out .entry)) ⌝ }
-{
-    let mut j = 0;
-    let mut at = 0;
-    while j < n {
-        bigendian::write_i32(&mut out[at..], answer[j]);
-        j += 1;
-        at += 4;
+        at += PAIR_SIZE;
     }
 }
 
 // Field 13, over the front of out.
 fn write_factor(out: &mut [u8], none: bool, decides: u8)
-    requires { ⌜ 5 ≤ length (now out) ⌝ }
+    requires { ⌜ headerSize + factorLength ≤ length (now out) ⌝ }
     ensures { λ _. ⌜ now (out .exit) ≡ onto (factorField none decides) (now (out .entry)) ⌝ }
 {
     let m = flag(none);
-    fields::write_header(out, FACTOR_TAG, 2);
-    out[3] = m;
-    out[4] = decides;
+    fields::write_header(out, FACTOR_TAG, FACTOR_LENGTH);
+    out[NONE_AT] = m;
+    out[DECIDES_AT] = decides;
 }
 
-// Field 11, over the front of out.
-fn write_answer(out: &mut [u8], n: usize, answer: &[i32; 8])
-    requires { ⌜ (n ≤ 8) × (3 + 4 * n ≤ length (now out)) ⌝ }
+// Field 11, over the front of out: the first n figures of the answer.
+fn write_answer(out: &mut [u8], n: usize, answer: &[i32])
+    requires { ⌜ (n ≤ 8) × ((n ≤ length (now answer)) × (headerSize + answerLength n ≤ length (now out))) ⌝ }
     ensures { λ _. ⌜ now (out .exit) ≡ onto (answerField n (now (answer .entry))) (now (out .entry)) ⌝ }
 {
-    fields::write_header(out, ANSWER_TAG, (4 * n) as u16);
-    write_figures(&mut out[fields::HEADER_SIZE..], n, answer);
+    fields::write_header(out, ANSWER_TAG, answer_length(n) as u16);
+    figures::write_i32s(&mut out[HEADER_SIZE..], &answer[..n]);
 }
 
 // Field 12, over the front of out.
 fn write_rows<'a>(out: &mut [u8], n: usize, residuals: &'a [i64; 8], reaches: &'a [u64; 8])
-    requires { ⌜ (n ≤ 8) × (3 + 16 * n ≤ length (now out)) ⌝ }
+    requires { ⌜ (n ≤ 8) × (headerSize + rowsLength n ≤ length (now out)) ⌝ }
     ensures { λ _. ⌜ now (out .exit) ≡ onto (rowsField n (now (residuals .entry)) (now (reaches .entry))) (now (out .entry)) ⌝ }
 {
-    fields::write_header(out, ROWS_TAG, (16 * n) as u16);
-    write_pairs(&mut out[fields::HEADER_SIZE..], n, residuals, reaches);
+    fields::write_header(out, ROWS_TAG, rows_length(n) as u16);
+    write_pairs(&mut out[HEADER_SIZE..], n, residuals, reaches);
 }
 
-// Fields 10 to 13 of an answer over the front of out: its n figures, the rounds used, and its judgement. Field 11 begins at byte 6, behind its n
-// figures field 12, and behind n rows field 13.
+// Fields 10 to 13 of an answer over the front of out: its first n figures, the rounds used, and its judgement.
 fn write_judged(out: &mut [u8], n: usize, rounds: usize, answer: &[i32; 8], judgement: Judgement)
     requires { ⌜ Holds n rounds judgement (length (now out)) ⌝ }
     ensures { λ _. ⌜ now (out .exit) ≡ onto (judgedFields n rounds (now (answer .entry)) judgement) (now (out .entry)) ⌝ }
@@ -116,10 +153,10 @@ fn write_judged(out: &mut [u8], n: usize, rounds: usize, answer: &[i32; 8], judg
     let residuals = judgement.residuals;
     let reaches = judgement.reaches;
     write_verdict(out, judgement.met, judgement.unmet as u8, rounds as u8);
-    write_answer(&mut out[6..], n, answer);
-    let rows = 9 + 4 * n;
+    write_answer(&mut out[ANSWER_AT..], n, answer);
+    let rows = rows_at(n);
     write_rows(&mut out[rows..], n, &residuals, &reaches);
-    let factor = 12 + 20 * n;
+    let factor = factor_at(n);
     write_factor(&mut out[factor..], judgement.none, judgement.decides as u8);
 }
 
@@ -135,7 +172,7 @@ pub fn write_record(
     ensures { λ r. ⌜ Written n rounds (now (answer .entry)) judgement (now (out .entry)) r (now (out .exit)) ⌝ }
 {
     write_judged(out, n, rounds, answer, judgement);
-    let end = 17 + 20 * n;
-    fields::write_header(&mut out[end..], END_TAG, 0);
-    20 + 20 * n
+    let end = end_at(n);
+    fields::write_end(&mut out[end..]);
+    end + HEADER_SIZE
 }

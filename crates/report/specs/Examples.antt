@@ -3,6 +3,7 @@ use mathlib.Core.Path.{_≡_, refl}
 use mathlib.Core.Bool.{true, false}
 use mathlib.Core.List.{[], _∷_, _++_}
 use lib.IntN.{pos, negsuc, negℤ}
+use Rattle.buffer.specs.Buffer.{run}
 use Rattle.decimal.specs.Buffer.{ascii}
 use Rattle.decimal.specs.Decimal.{digits-within, digits, last-digits, signed, fixed-point}
 use Rattle.judge.specs.declared.Judgement.{Judgement}
@@ -14,7 +15,7 @@ met-case = record { met = true; unmet = 0; none = false; decides = 1; residuals 
 
 printed-example : text (report 1 1 1 (negsuc 3 ∷ []) met-case)
     ≡ ascii "met row 0 rounds 1\nanswer 1 -0.4\nrow 1 residual 0 reach 0\nfactor row 1\n"
-unfolding digits-within digits last-digits signed fixed-point verdict-line answer-line row-line factor-line text met-case
+unfolding digits-within digits last-digits signed fixed-point verdict-line answer-line row-line factor-line text run met-case
 printed-example = refl
 
 -- two tanks, e 0: the second row is not met and has no factor
@@ -23,7 +24,7 @@ unmet-case = record { met = false; unmet = 2; none = true; decides = 1; residual
 
 other-forms : text (report 2 0 8 (pos 0 ∷ negℤ (pos 10000000) ∷ []) unmet-case)
     ≡ ascii "unmet row 2 rounds 8\nanswer 1 0\nanswer 2 -10000000\nrow 1 residual -7 reach 0\nrow 2 residual 12 reach 9\nfactor none row 1\n"
-unfolding digits-within digits last-digits signed fixed-point verdict-line answer-line row-line factor-line text unmet-case
+unfolding digits-within digits last-digits signed fixed-point verdict-line answer-line row-line factor-line text run unmet-case
 other-forms = refl
 
 -- e 3

@@ -2,12 +2,12 @@
 use mathlib.Core.Path.{_≡_}
 use mathlib.Core.Bool.{Bool, true, false, cond, _&&_}
 use mathlib.Core.List.{List, [], _∷_, _++_}
-use Prim.Native.Nat.{ℕ, zero, suc, _+_, _*_}
+use Prim.Native.Nat.{ℕ, _+_, _*_}
 use lib.Dec.{leb}
 use lib.ListN.{length, getD}
 use lib.IntN.{ℤ, pos}
 use Rattle.decimal.specs.Buffer.{ascii, joined}
-use Rattle.buffer.specs.Buffer.{onto}
+use Rattle.buffer.specs.Buffer.{onto, run}
 use Rattle.decimal.specs.Decimal.{digits, signed, fixed-point}
 use Rattle.judge.specs.declared.Judgement.{Judgement}
 use Rattle.judge.specs.Finding.{Finding, finding}
@@ -31,11 +31,6 @@ line-feed = 10 ∷ []
 -- a word and a whole number behind it
 abbrev pub labelled : List ℕ → ℕ → List ℕ
 labelled word x = word ++ digits x
-
--- the lines of the places 0, 1, .., n - 1
-abbrev pub lines : ℕ → (ℕ → List ℕ) → List ℕ
-lines zero line = []
-lines (suc n) line = lines n line ++ line n
 
 -- "`met row 0 rounds 1`", or "`unmet`": the first unmet row, or 0, and the rounds used
 abbrev pub verdict-word : Bool → List ℕ
@@ -64,10 +59,10 @@ factor-line none row = joined (labelled (factor-word none) row ∷ line-feed ∷
 
 -- "The lines give the verdict, then every tank's answer and then every row by number, then the factor"
 abbrev pub answer-lines : ℕ → ℕ → (ℕ → ℤ) → List ℕ
-answer-lines n e answer = lines n (λ j. answer-line e (j + 1) (answer j))
+answer-lines n e answer = run n (λ j. answer-line e (j + 1) (answer j))
 
 abbrev pub row-lines : ℕ → (ℕ → ℤ) → (ℕ → ℕ) → List ℕ
-row-lines n R T = lines n (λ i. row-line (i + 1) (R i) (T i))
+row-lines n R T = run n (λ i. row-line (i + 1) (R i) (T i))
 
 unfoldable pub text : Report → List ℕ
 text r =

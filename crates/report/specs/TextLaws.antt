@@ -3,18 +3,19 @@
 use mathlib.Core.Path.{_≡_}
 use mathlib.Core.Bool.{Bool, true, false}
 use mathlib.Core.List.{List, [], _∷_}
-use Prim.Native.Nat.{ℕ, zero, suc, _+_, _*_, _^_, _≤_, _<_}
-use native.Mathlib.Nat.{suc-mul, lt-of-le-of-lt, lt-of-lt-of-le}
+use Prim.Native.Nat.{ℕ, suc, _+_, _*_, _^_, _≤_, _<_}
+use native.Mathlib.Nat.{lt-of-le-of-lt, lt-of-lt-of-le}
 use native.Mathlib.Omega.{arith}
 use borrow.Author.Tests.{le-leb, lt-leb}
 use lib.Dec.{lit<, lit≤}
 use lib.ListN.{length, length-append}
 use lib.IntN.{ℤ, natAbs}
+use Rattle.buffer.specs.RunLaws.{run-within}
 use Rattle.decimal.specs.Buffer.{ascii, joined}
 use Rattle.decimal.specs.Decimal.{digits, signed, fixed-point}
 use Rattle.decimal.specs.DigitLaws.{length-digits}
 use Rattle.decimal.specs.ReadingLaws.{length-signed, length-fixed-point}
-use Rattle.report.specs.Text.{Report, lines, answer-lines, row-lines, labelled, line-feed, verdict-word, verdict-line, answer-line, row-line, factor-word, factor-line, text, verdict-room, answer-room, row-room, factor-room, text-room, refusal-text, refusal-room, printed, printed-refusal}
+use Rattle.report.specs.Text.{Report, answer-lines, row-lines, labelled, line-feed, verdict-word, verdict-line, answer-line, row-line, factor-word, factor-line, text, verdict-room, answer-room, row-room, factor-room, text-room, refusal-text, refusal-room, printed, printed-refusal}
 
 -- ---- a text from the bounds of its parts
 
@@ -88,17 +89,6 @@ length-refusal number h =
 
 -- ---- the whole text
 
-length-lines : (n limit : ℕ) (line : ℕ → List ℕ) → ((j : ℕ) → j < n → length (line j) ≤ limit) → length (lines n line) ≤ n * limit
-length-lines zero limit line h = omega arith
-length-lines (suc n) limit line h =
-    omega (
-      arith,
-      length-append (lines n line) (line n),
-      length-lines n limit line (λ j l. h j (omega arith)),
-      h n (omega arith),
-      suc-mul n limit,
-    )
-
 -- what the types of a case's and a judgement's figures admit
 pub record Within (r : Report) : Type 0 where
   pub tanks : r .n ≤ 8
@@ -116,10 +106,10 @@ length-text r w =
     let A : List ℕ = answer-lines (r .n) (r .exponent) (r .answer) in
     let R : List ℕ = row-lines (r .n) (r .found .R) (r .found .T) in
     let a : length A ≤ r .n * answer-room =
-    length-lines (r .n) answer-room (λ j. answer-line (r .exponent) (j + 1) (r .answer j))
+    run-within answer-room (λ j. answer-line (r .exponent) (j + 1) (r .answer j)) (r .n)
     (λ j h. length-answer-line (r .exponent) (j + 1) (r .answer j) (omega (arith, w .exponent)) (omega (arith, w .tanks)) (lt-of-le-of-lt (w .answer j h) (lit< tt))) in
     let b : length R ≤ r .n * row-room =
-    length-lines (r .n) row-room (λ i. row-line (i + 1) (r .found .R i) (r .found .T i))
+    run-within row-room (λ i. row-line (i + 1) (r .found .R i) (r .found .T i)) (r .n)
     (λ i h. length-row-line (i + 1) (r .found .R i) (r .found .T i) (omega (arith, w .tanks)) (lt-of-le-of-lt (w .residual i h) (lit< tt)) (lt-of-lt-of-le (w .reach i h) (lit≤ tt))) in
     length-joined (verdict-line (r .found .met) (r .found .unmet) (r .rounds) ∷ A ∷ R ∷ factor-line (r .found .none) (r .found .decides) ∷ [])
     (verdict-room ∷ 8 * answer-room ∷ 8 * row-room ∷ factor-room ∷ [])

@@ -6,19 +6,18 @@ use native.Mathlib.Nat.{le-antisymm, mul-le-mul-left, div-add-mod', mod-lt}
 use native.Mathlib.Decide.{decLt}
 use native.Mathlib.Omega.{arith}
 use lib.Dec.{leb·suc-zero}
-use lib.IntN.{ℤ, pos, negsuc, negℤ, natAbs, _-ℤ_, _*ℤ_, negℤ-negℤ}
+use lib.IntN.{ℤ, pos, negsuc, negℤ, natAbs, _-ℤ_, _*ℤ_, *ℤ-zero, negℤ-negℤ}
 use lib.Signed.{ltZ}
-use Rattle.integers.specs.Diff.{abs-parts, one-side, sub-parts, neg-parts}
-use Rattle.integers.specs.Ring.{negℤ-*ℤ, *ℤ-negℤ}
-use Rattle.integers.specs.Size.{natAbs-negℤ, sfits-size}
+use Rattle.integers.specs.Ring.{negℤ-*ℤ, *ℤ-negℤ, negℤ-*ℤ-negℤ}
+use Rattle.integers.specs.Size.{natAbs-negℤ, turned, turned-near, sfits-size}
 use Rattle.rounding.specs.Half.{rounds-up, up-half, stays-half, with-half, half-carries}
-use Rattle.rounding.specs.Round.{one-if, near, rnd, Defined}
+use Rattle.rounding.specs.Round.{near, rnd, Defined}
 
 -- ---- of naturals: within half of the divisor
 
 -- with the quotient d and the remainder r of a by b
 within : (a b d r : ℕ) (up : Bool) → d * b + r ≡ a → r < b → (up ≡ true → b ≤ 2 * r) → (up ≡ false → 2 * r ≤ b)
-    → (2 * (b * (d + one-if up)) ≤ 2 * a + b) × (2 * a ≤ 2 * (b * (d + one-if up)) + b)
+    → (2 * (b * (d + cond up 1 0)) ≤ 2 * a + b) × (2 * a ≤ 2 * (b * (d + cond up 1 0)) + b)
 within a b d r true e l h k = let i = h refl in (omega arith, omega arith)
 within a b d r false e l h k = let i = k refl in (omega arith, omega arith)
 
@@ -91,35 +90,19 @@ rnd-by-neg (negsuc a) (negsuc b) = refl
 pub rnd-le : (p q : ℤ) (m : ℕ) → natAbs p ≤ m * natAbs q → natAbs (rnd p q) ≤ m
 rnd-le p q m h = rw (abs-rnd p q) (near-le (natAbs p) (natAbs q) m h)
 
--- x with the sign of p
-abbrev like : ℤ → ℕ → ℤ
-like (pos a) x = pos x
-like (negsuc a) x = negℤ (pos x)
-
-mul-rnd : (p q : ℤ) → q *ℤ rnd p q ≡ like p (natAbs q * near (natAbs p) (natAbs q))
+mul-rnd : (p q : ℤ) → q *ℤ rnd p q ≡ turned p (pos (natAbs q * near (natAbs p) (natAbs q)))
 unfolding rnd
-mul-rnd (pos a) (pos b) = refl
-mul-rnd (pos a) (negsuc b) = *ℤ-negℤ (negsuc b) (pos (near a (suc b))) ∙ negℤ-negℤ (pos (suc b * near a (suc b)))
+mul-rnd (pos zero) q = ap (λ (x : ℤ). q *ℤ x) (rnd-zero q) ∙ *ℤ-zero q
+mul-rnd (pos (suc a)) (pos b) = refl
+mul-rnd (pos (suc a)) (negsuc b) = negℤ-*ℤ-negℤ (pos (suc b)) (pos (near (suc a) (suc b)))
 mul-rnd (negsuc a) (pos b) = *ℤ-negℤ (pos b) (pos (near (suc a) b))
 mul-rnd (negsuc a) (negsuc b) = refl
-
-like-error : (p : ℤ) (x b : ℕ) → 2 * x ≤ 2 * natAbs p + b → 2 * natAbs p ≤ 2 * x + b → 2 * natAbs (like p x -ℤ p) ≤ b
-like-error (pos a) x b h k =
-    omega (arith, sub-parts (pos x) (pos a), abs-parts (pos x -ℤ pos a), one-side (pos x -ℤ pos a))
-like-error (negsuc a) x b h k =
-    omega (
-      arith,
-      sub-parts (negℤ (pos x)) (negsuc a),
-      neg-parts (pos x),
-      abs-parts (negℤ (pos x) -ℤ negsuc a),
-      one-side (negℤ (pos x) -ℤ negsuc a),
-    )
 
 -- q rnd(p/q) is within half of q from p
 pub rnd-near : (p q : ℤ) → 0 < natAbs q → 2 * natAbs (q *ℤ rnd p q -ℤ p) ≤ natAbs q
 rnd-near p q h =
     let w = near-within (natAbs p) (natAbs q) h in
-    rw (mul-rnd p q) (like-error p (natAbs q * near (natAbs p) (natAbs q)) (natAbs q) (w .0) (w .1))
+    rw (mul-rnd p q) (turned-near p (natAbs q * near (natAbs p) (natAbs q)) (natAbs q) (w .0) (w .1))
 
 exact-pos : (m : ℕ) (q : ℤ) → 0 < natAbs q → rnd (pos m *ℤ q) q ≡ pos m
 unfolding rnd
@@ -137,7 +120,7 @@ rnd-mul (negsuc m) q h =
 
 -- ---- for code
 
-pub near-by : (a b : ℕ) → 0 < b → near a b ≡ a / b + one-if (rounds-up (a / b) (a % b) b)
+pub near-by : (a b : ℕ) → 0 < b → near a b ≡ a / b + cond (rounds-up (a / b) (a % b) b) 1 0
 unfolding near
 near-by a zero h = absurd (omega arith)
 near-by a (suc b) h = refl
@@ -164,11 +147,7 @@ defined p q h k =
 
 near-scale : (a : ℕ) → near a 16384 ≡ with-half a / 16384
 unfolding near
-near-scale a = ap (λ k. a / 16384 + k) (one (rounds-up (a / 16384) (a % 16384) 16384)) ∙ sym (half-carries a)
-  where
-    one : (up : Bool) → one-if up ≡ cond up 1 0
-    one true = refl
-    one false = refl
+near-scale a = sym (half-carries a)
 
 pub rnd-scale : (p : ℤ) → rnd p (pos 16384) ≡ cond (ltZ p (pos 0)) (negℤ (pos (with-half (natAbs p) / 16384))) (pos (with-half (natAbs p) / 16384))
 rnd-scale p = rw (← near-scale (natAbs p)) (rnd-signs p (pos 16384))

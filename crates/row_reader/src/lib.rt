@@ -1,7 +1,8 @@
 // The reader of the rows of a case.
-ghost use Prim.Native.Nat.{_≤_};
+ghost use Prim.Native.Nat.{_+_, _≤_};
 ghost use lib.ListN.{length, drop};
-ghost use Rattle.row_reader.specs.Read.{RowHere, FiguresRead, RowRoom, RowRead, RowsRoom, RowsRead};
+ghost use Rattle.casefile.specs.Layout.{rowLength, RowLists, RowsRoom};
+ghost use Rattle.row_reader.specs.Read.{FiguresRead, RowRead, RowsRead};
 use fields::HEADER_SIZE;
 use outcome::Refusal;
 use outcome::Status;
@@ -15,12 +16,14 @@ fn read_figures(
     b: &mut [i32],
     f: &mut [u32],
 ) -> bool
-    requires { ⌜ RowHere (now s) at (now a) (now t) (now b) (now f) ⌝ }
+    requires { ⌜ at + rowLength (length (now a)) ≤ length (now s) ⌝ }
+    requires { ⌜ RowLists (length (now a)) (now a) (now t) (now b) (now f) ⌝ }
     ensures { λ r. ⌜ FiguresRead (length (now (a .entry))) (drop at (now (s .entry))) r (now (a .exit)) (now (t .exit)) (now (b .exit)) (now (f .exit)) ⌝ }
 {
-    let tolerances = at + 2 * a.len();
-    let right_side = tolerances + 2 * a.len();
-    let right_tolerance = right_side + 4;
+    let n = a.len();
+    let tolerances = at + casefile::tolerances_at(n);
+    let right_side = at + casefile::right_side_at(n);
+    let right_tolerance = at + casefile::right_tolerance_at(n);
     if !figures::read_i16s(s, at, casefile::COEFFICIENT_LIMIT, a) {
         return false;
     }
@@ -43,7 +46,7 @@ fn read_row(
     b: &mut [i32],
     f: &mut [u32],
 ) -> Status
-    requires { ⌜ RowRoom n (now a) (now t) (now b) (now f) ⌝ }
+    requires { ⌜ RowLists n (now a) (now t) (now b) (now f) ⌝ }
     ensures { λ r. ⌜ RowRead n (drop at (now (s .entry))) r (now (a .exit)) (now (t .exit)) (now (b .exit)) (now (f .exit)) ⌝ }
 {
     let field = fields::check_field(s, at, casefile::ROW_TAG, casefile::row_length(n));

@@ -1,19 +1,21 @@
 // The writer of the rows of a case.
 ghost use mathlib.Core.Path.{_≡_};
-ghost use Rattle.buffer.specs.Buffer.{onto};
-ghost use Rattle.casefile.specs.Layout.{joined, rowMade, rowField, split};
-ghost use Rattle.row_writer.specs.Room.{RowRoom, RowsRoom};
+ghost use Prim.Native.Nat.{_*_, _≤_};
+ghost use lib.ListN.{length};
+ghost use Rattle.buffer.specs.Buffer.{onto, joined};
+ghost use Rattle.casefile.specs.Layout.{rowSize, rowMade, RowLists, RowsRoom, rowField, split};
 use fields::HEADER_SIZE;
 
 // A row's field, over the front of out.
 fn write_row(out: &mut [u8], a: &[i16], t: &[u16], b: &[i32], f: &[u32])
-    requires { ⌜ RowRoom (now out) (now a) (now t) (now b) (now f) ⌝ }
+    requires { ⌜ rowSize (length (now a)) ≤ length (now out) ⌝ }
+    requires { ⌜ RowLists (length (now a)) (now a) (now t) (now b) (now f) ⌝ }
     ensures { λ _. ⌜ now (out .exit) ≡ onto (rowField (rowMade (now (a .entry)) (now (t .entry)) (now (b .entry)) (now (f .entry)))) (now (out .entry)) ⌝ }
 {
     let n = a.len();
-    let tolerances = HEADER_SIZE + 2 * n;
-    let right_side = tolerances + 2 * n;
-    let right_tolerance = right_side + 4;
+    let tolerances = HEADER_SIZE + casefile::tolerances_at(n);
+    let right_side = HEADER_SIZE + casefile::right_side_at(n);
+    let right_tolerance = HEADER_SIZE + casefile::right_tolerance_at(n);
     fields::write_header(out, casefile::ROW_TAG, casefile::row_length(n) as u16);
     figures::write_i16s(&mut out[HEADER_SIZE..], a);
     figures::write_u16s(&mut out[tolerances..], t);
@@ -23,7 +25,8 @@ fn write_row(out: &mut [u8], a: &[i16], t: &[u16], b: &[i32], f: &[u32])
 
 // The fields of n rows, over the front of out.
 pub fn write_rows(out: &mut [u8], n: usize, a: &[i16], t: &[u16], b: &[i32], f: &[u32])
-    requires { ⌜ RowsRoom (now out) n (now a) (now t) (now b) (now f) ⌝ }
+    requires { ⌜ n * rowSize n ≤ length (now out) ⌝ }
+    requires { ⌜ RowsRoom n (now a) (now t) (now b) (now f) ⌝ }
     ensures { λ _. ⌜ now (out .exit) ≡ onto (joined rowField (split n n (now (a .entry)) (now (t .entry)) (now (b .entry)) (now (f .entry)))) (now (out .entry)) ⌝ }
 {
     let size = casefile::row_size(n);

@@ -2,7 +2,7 @@
 use mathlib.Core.Path.{_≡_}
 use mathlib.Core.Bool.{true}
 use Prim.Native.Nat.{ℕ, _+_, _<_, _≤_}
-use Rattle.elimination.specs.Matrix.{Within}
+use Rattle.integers.specs.Tables.{Within}
 use Rattle.elimination.specs.Claims.{ZeroColumn}
 use Rattle.judge.specs.System.{System, trial}
 use Rattle.judge.specs.Judgement.{judgement}

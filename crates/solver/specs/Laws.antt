@@ -7,10 +7,9 @@ use native.Mathlib.Numerals.{add-one}
 use native.Mathlib.Omega.{arith}
 use lib.Dec.{leb}
 use lib.ListN.{set}
-use lib.IntN.{ℤ, pos, natAbs}
+use lib.IntN.{ℤ, natAbs}
 use borrow.Author.Tests.{le-leb, lt-leb, leb-true}
-use Rattle.integers.specs.Tables.{all-set-at}
-use Rattle.elimination.specs.Matrix.{Within}
+use Rattle.integers.specs.Tables.{Within, within-set}
 use Rattle.judge.specs.declared.Standing.{Standing}
 use Rattle.judge.specs.System.{System, trial}
 use Rattle.judge.specs.Judgement.{standing}
@@ -22,16 +21,13 @@ use Rattle.solver.specs.Limits.{Measured}
 -- ---- the update, at a loop's turn: the rest of the work from here is all of it
 
 module _ (d : List ℤ) (j n : ℕ) (Y : List ℤ) (l : j < n) where
-  left : n - j ≡ suc (n - (j + 1))
-  left = omega arith
-
   pub gained-more : natAbs (gain Y d j) ≤ figure-limit → gained-from d j (n - j) Y ≡ gained-from d (j + 1) (n - (j + 1)) (set Y j (gain Y d j))
   unfolding gained-from
-  gained-more h = rw (left, le-leb (natAbs (gain Y d j)) figure-limit h)
+  gained-more h = let e : n - j ≡ suc (n - (j + 1)) = omega arith in rw (e, le-leb (natAbs (gain Y d j)) figure-limit h)
 
   pub gained-stop : figure-limit < natAbs (gain Y d j) → gained-from d j (n - j) Y ≡ update false Y
   unfolding gained-from
-  gained-stop h = rw (left, lt-leb (natAbs (gain Y d j)) figure-limit h)
+  gained-stop h = let e : n - j ≡ suc (n - (j + 1)) = omega arith in rw (e, lt-leb (natAbs (gain Y d j)) figure-limit h)
 
 pub gained-done : (d : List ℤ) (j n : ℕ) (Y : List ℤ) → n ≤ j → gained-from d j (n - j) Y ≡ update true Y
 unfolding gained-from
@@ -47,7 +43,7 @@ kept-figures d j (suc m) Y h = go (leb (natAbs (gain Y d j)) figure-limit) refl 
     go : (t : Bool) → leb (natAbs (gain Y d j)) figure-limit ≡ t
         → (Within figure-limit (set Y j (gain Y d j)) → Within figure-limit (gained-from d (j + 1) m (set Y j (gain Y d j)) .trial))
         → Within figure-limit ((cond t (gained-from d (j + 1) m (set Y j (gain Y d j))) (update false Y)) .trial)
-    go true e r = r (all-set-at (λ (_ : ℕ) (x : ℤ). natAbs x ≤ figure-limit) (pos 0) Y j (gain Y d j) (leb-true (natAbs (gain Y d j)) figure-limit e) h)
+    go true e r = r (within-set Y j (gain Y d j) (leb-true (natAbs (gain Y d j)) figure-limit e) h)
     go false e r = h
 
 pub gained-within : (n : ℕ) (Y : List ℤ) (d : Corrections) → Within figure-limit Y → Within figure-limit (gained n Y d .trial)

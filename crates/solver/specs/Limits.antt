@@ -3,7 +3,7 @@ use mathlib.Core.Path.{_≡_}
 use mathlib.Core.List.{List}
 use Prim.Native.Nat.{ℕ, suc, _^_, _<_, _≤_}
 use lib.IntN.{ℤ}
-use Rattle.elimination.specs.Matrix.{Within}
+use Rattle.integers.specs.Tables.{Within}
 use Rattle.elimination.specs.Claims.{Factors, Permutation}
 use Rattle.judge.specs.System.{System, trial}
 use Rattle.judge.specs.Judgement.{standing}

@@ -4,6 +4,7 @@ use mathlib.Core.List.{List}
 use Prim.Native.Nat.{ℕ, _≤_}
 use native.Mathlib.Omega.{arith}
 use lib.IntN.{ℤ}
+use Rattle.integers.specs.Tables.{zeros-within}
 use Rattle.judge.specs.declared.Judgement.{Judgement}
 use Rattle.judge.specs.System.{System, trial}
 use Rattle.judge.specs.Judgement.{judgement, concluded}
@@ -20,7 +21,6 @@ use Rattle.solver.specs.declared.Status.the-variants.{ZeroPivot}
 use Rattle.solver.specs.Refinement.{start, refined}
 use Rattle.solver.specs.Solution.{kept, answered, solution}
 use Rattle.solver.specs.Limits.{Limits, Eliminated, Measured, Startable}
-use Rattle.solver.specs.Sizes.{zero-within}
 
 -- ---- the kept trial, as the code finds it
 
@@ -36,7 +36,7 @@ kept-concluded s D n t p j e h m q =
 
 module _ (s : System) (D : ℕ) where
   pub start-measured : (p : Progress) → p ≡ start s D → Measured s D p
-  start-measured p e = rw e (record { figures = zero-within; standing-is = refl })
+  start-measured p e = rw e (record { figures = zeros-within 8; standing-is = refl })
 
   pub eliminated-whole : Limits s D → outcome (s .n) (eliminated (s .n) (s .coefficients) .steps) ≡ E.Complete
       → Eliminated (s .n) (eliminated (s .n) (s .coefficients) .rows) (eliminated (s .n) (s .coefficients) .order)

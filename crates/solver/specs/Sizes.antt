@@ -1,4 +1,4 @@
--- Why no number of a round wraps: the sizes of residuals, right-hand sides and new figures. Assumes nothing.
+-- Why no number of a round wraps: the sizes of residuals and right-hand sides. Assumes nothing.
 use mathlib.Core.Path.{_≡_, ap, _∙_}
 use mathlib.Core.List.{List}
 use Prim.Native.Nat.{ℕ, _+_, _*_, _^_, _<_, _≤_}
@@ -6,21 +6,19 @@ use native.Mathlib.Nat.{le-trans}
 use native.Mathlib.Omega.{arith}
 use lib.ListN.{getD}
 use lib.IntN.{ℤ, pos, natAbs}
-use Rattle.integers.specs.Size.{natAbs-+ℤ}
-use Rattle.integers.specs.Tables.{table, getD-filled, all-table, all-filled}
-use Rattle.elimination.specs.Matrix.{Within}
+use Rattle.integers.specs.Tables.{getD-filled, all-filled, Within}
 use Rattle.judge.specs.System.{System, Trial, residual, row, trial}
 use Rattle.judge.specs.declared.Standing.{Standing}
 use Rattle.judge.specs.Judgement.{residuals, standing}
 use Rattle.judge.specs.Laws.{at-residuals}
 use Rattle.judge.specs.Places.{Cleared, filled-cleared}
 use Rattle.judge.specs.Sizes.{residual-size, standing-size}
-use Rattle.substitution.specs.Passes.{correction-limit, forward, backward}
+use Rattle.substitution.specs.Passes.{forward, backward}
 use Rattle.substitution.specs.Bounds.{right-limit, Forward, Backward}
 use Rattle.substitution.specs.ForwardLaws.{backward-ready}
 use Rattle.substitution.specs.BackwardLaws.{backward-within}
 use Rattle.solver.specs.declared.Progress.{Progress}
-use Rattle.solver.specs.Refinement.{figure-limit, Update, permuted, ordered, substituted, gain, gained, updated}
+use Rattle.solver.specs.Refinement.{figure-limit, Update, permuted, ordered, substituted, gained, updated}
 use Rattle.solver.specs.Limits.{Limits, Ready, Updatable, Gainable}
 
 -- ---- document 01's limits are enough
@@ -94,11 +92,3 @@ module _ (w : List (List ℤ)) (o : List ℕ) (s : System) (D : ℕ) (p : Progre
   pub updated-from : (u : Update) → u ≡ gained (s .n) (p .trial) (substituted w (permuted (s .n) o (p .standing .residuals)) (s .n)) → u ≡ updated w o s D (p .trial)
   unfolding updated
   updated-from u e = rw held at e
-
--- ---- new figures
-
-pub gain-le : (Y d : List ℤ) (j : ℕ) → Within figure-limit Y → Within correction-limit d → natAbs (gain Y d j) ≤ 30000000
-gain-le Y d j h k = omega (arith, natAbs-+ℤ (getD Y j (pos 0)) (getD d j (pos 0)), h j, k j)
-
-pub zero-within : Within figure-limit (table 8 (λ _. pos 0))
-zero-within = all-table (λ (x : ℤ). natAbs x ≤ figure-limit) (pos 0) (omega arith) 8 (λ _. pos 0) (λ i. omega arith)

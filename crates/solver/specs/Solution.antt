@@ -15,13 +15,6 @@ use Rattle.solver.specs.declared.Status.{Status}
 use Rattle.solver.specs.declared.Status.the-variants.{Answered, ZeroPivot, OutsideRange}
 use Rattle.solver.specs.Refinement.{start, refined}
 
--- document 01's numbers: 8, "At some step of the elimination every candidate for the pivot is zero", and 9, "A correction is outside
--- ±20,000,000, or a new answer figure is outside ±10,000,000, whichever the steps reach first"; 0 for none
-abbrev pub refusal : Status → ℕ
-refusal Answered = 0
-refusal ZeroPivot = 8
-refusal OutsideRange = 9
-
 -- the trial Y after k rounds, judged
 abbrev pub judged : System → ℕ → Status → ℕ → List ℤ → Solution
 judged s D t k Y = record { status = t; rounds = k; trial = Y; judgement = judgement s (trial (s .n) D Y) }

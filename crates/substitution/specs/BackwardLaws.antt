@@ -3,36 +3,21 @@
 use mathlib.Core.Path.{_≡_, refl}
 use mathlib.Core.Bool.{Bool, true, false, cond}
 use mathlib.Core.List.{List, []}
-use Prim.Native.Nat.{ℕ, zero, suc, _+_, _*_, _-_, _^_, _<_, _≤_}
-use native.Mathlib.Nat.{mul-le-mul}
+use Prim.Native.Nat.{ℕ, zero, suc, _+_, _-_, _^_, _<_, _≤_}
 use native.Mathlib.Omega.{arith}
 use lib.Dec.{leb}
 use lib.ListN.{getD, set}
-use lib.IntN.{ℤ, pos, natAbs, _+ℤ_, _-ℤ_, _*ℤ_}
+use lib.IntN.{ℤ, pos, natAbs, _-ℤ_, _*ℤ_}
 use borrow.Author.Tests.{le-leb, lt-leb, leb-true}
 use mir.Syntax.{w64}
 use mir.Val.{SFits}
-use Rattle.integers.specs.Size.{natAbs-*ℤ, natAbs-subℤ, sfits-size}
+use Rattle.integers.specs.Size.{natAbs-subℤ, sfits-size, product-ok}
 use Rattle.integers.specs.Sums.{sum, sum-bound}
-use Rattle.integers.specs.Tables.{all-table, all-set-at}
-use Rattle.elimination.specs.Matrix.{Within}
+use Rattle.integers.specs.Tables.{Within, zeros-within, within-set}
 use Rattle.substitution.specs.Passes.{product-above, sum-above, correction-at, correction-limit, none, corrections, backward-from, backward}
 use Rattle.substitution.specs.Bounds.{forward-limit, Backward, Summable, Correctable}
 
--- the sum with one column more
-pub above-more : (row d : List ℤ) (i j : ℕ) → suc i ≤ j → sum (j + 1 - suc i) (product-above row d i) ≡ sum (j - suc i) (product-above row d i) +ℤ getD row j (pos 0) *ℤ getD d j (pos 0)
-above-more row d i j h =
-    let e : j + 1 - suc i ≡ suc (j - suc i) = omega arith in
-    let f : suc i + (j - suc i) ≡ j = omega arith in
-    rw (e, f)
-
 module _ (row d : List ℤ) (i n : ℕ) (h : Summable row d i n) where
-  term-le : (j : ℕ) → natAbs (getD row j (pos 0) *ℤ getD d j (pos 0)) ≤ 2 ^ 30 * correction-limit
-  term-le j = omega (arith, natAbs-*ℤ (getD row j (pos 0)) (getD d j (pos 0)), mul-le-mul (h .entries j) (h .corrections j))
-
-  sum-le : (m : ℕ) → m ≤ 7 → natAbs (sum m (product-above row d i)) ≤ 7 * (2 ^ 30 * correction-limit)
-  sum-le m l = omega (arith, sum-bound m (2 ^ 30 * correction-limit) (product-above row d i) (λ j q. term-le (suc i + j)))
-
   -- none of them wraps
   pub working-fits : (j : ℕ) → SFits w64 (getD row j (pos 0))
   working-fits j = sfits-size (omega (arith, h .entries j))
@@ -41,23 +26,22 @@ module _ (row d : List ℤ) (i n : ℕ) (h : Summable row d i n) where
   correction-fits j = sfits-size (omega (arith, h .corrections j))
 
   pub term-fits : (j : ℕ) → SFits w64 (getD row j (pos 0) *ℤ getD d j (pos 0))
-  term-fits j = sfits-size (omega (arith, term-le j))
+  term-fits j = sfits-size (omega (arith, product-ok (getD row j (pos 0)) (getD d j (pos 0)) _ _ (h .entries j) (h .corrections j)))
 
   pub sum-fits : (m : ℕ) → m ≤ 7 → SFits w64 (sum m (product-above row d i))
-  sum-fits m l = sfits-size (omega (arith, sum-le m l))
+  sum-fits m l =
+      sfits-size
+      (omega (arith, sum-bound m _ (product-above row d i) (λ j q. product-ok (getD row (suc i + j) (pos 0)) (getD d (suc i + j) (pos 0)) _ _ (h .entries _) (h .corrections _))))
 
 module _ (row : List ℤ) (z : ℤ) (d : List ℤ) (i n : ℕ) (h : Correctable row z d i n) where
-  pub scaled-le : natAbs (pos 256 *ℤ z) ≤ 256 * forward-limit 7
-  scaled-le = omega (arith, natAbs-*ℤ (pos 256) z, h .right)
-
   pub numerator-small : natAbs (pos 256 *ℤ z -ℤ sum-above row d i n) < 2 ^ 63
   numerator-small =
       let c = h .summable .columns in
       omega (
         arith,
         natAbs-subℤ (pos 256 *ℤ z) (sum-above row d i n),
-        scaled-le,
-        sum-le row d i n (h .summable) (n - suc i) (omega arith),
+        product-ok (pos 256) z 256 (forward-limit 7) (omega arith) (h .right),
+        sum-bound (n - suc i) _ (product-above row d i) (λ j q. product-ok (getD row (suc i + j) (pos 0)) (getD d (suc i + j) (pos 0)) _ _ (h .summable .entries _) (h .summable .corrections _)),
       )
 
 -- a row of the pass is ready
@@ -68,9 +52,6 @@ correctable w z n i d h l k =
       pivot = h .factors .pivots i l;
       right = h .right i;
     }
-
-pub none-within : Within correction-limit none
-none-within = all-table (λ (x : ℤ). natAbs x ≤ correction-limit) (pos 0) (omega arith) 8 (λ _. pos 0) (λ i. omega arith)
 
 -- the pass, at a loop's turn: the rest of the work from here is all of it
 module _ (w : List (List ℤ)) (z : List ℤ) (n i : ℕ) (d : List ℤ) where
@@ -98,9 +79,9 @@ from-within w z n (suc i) d h = go (leb (natAbs (correction-at w z n i d)) corre
     go : (t : Bool) → leb (natAbs value) correction-limit ≡ t
         → (Within correction-limit (set d i value) → Within correction-limit (backward-from w z n i (set d i value) .values))
         → Within correction-limit ((cond t (backward-from w z n i (set d i value)) (corrections false d)) .values)
-    go true e r = r (all-set-at (λ (_ : ℕ) (x : ℤ). natAbs x ≤ correction-limit) (pos 0) d i value (leb-true (natAbs value) correction-limit e) h)
+    go true e r = r (within-set d i value (leb-true (natAbs value) correction-limit e) h)
     go false e r = h
 
 pub backward-within : (w : List (List ℤ)) (z : List ℤ) (n : ℕ) → Within correction-limit (backward w z n .values)
 unfolding backward
-backward-within w z n = from-within w z n n none none-within
+backward-within w z n = from-within w z n n none (zeros-within 8)

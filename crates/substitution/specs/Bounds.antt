@@ -3,7 +3,7 @@ use mathlib.Core.List.{List}
 use Prim.Native.Nat.{ℕ, _*_, _^_, _<_, _≤_}
 use lib.ListN.{getD}
 use lib.IntN.{ℤ, pos, natAbs}
-use Rattle.elimination.specs.Matrix.{Within}
+use Rattle.integers.specs.Tables.{Within}
 use Rattle.elimination.specs.Claims.{Factors}
 use Rattle.substitution.specs.Passes.{correction-limit}
 

@@ -2,8 +2,7 @@
 -- Assumes nothing.
 use mathlib.Core.Path.{_≡_, refl}
 use mathlib.Core.List.{List, []}
-use Prim.Native.Nat.{ℕ, zero, suc, _+_, _*_, _^_, _<_, _≤_}
-use native.Mathlib.Nat.{mul-le-mul}
+use Prim.Native.Nat.{ℕ, zero, suc, _+_, _^_, _<_, _≤_}
 use native.Mathlib.Numerals.{add-one}
 use native.Mathlib.Omega.{arith}
 use native.Mathlib.Decide.{decLt}
@@ -12,27 +11,19 @@ use lib.IntN.{ℤ, pos, natAbs, _*ℤ_}
 use lib.Pow.{pow-mono, pow-pos}
 use mir.Syntax.{w64}
 use mir.Val.{SFits}
-use Rattle.integers.specs.Size.{natAbs-*ℤ, natAbs-subℤ, sfits-size}
-use Rattle.integers.specs.Tables.{all-set-at}
+use Rattle.integers.specs.Size.{natAbs-subℤ, sfits-size, product-ok}
+use Rattle.integers.specs.Tables.{all-set-at, Within}
 use Rattle.rounding.specs.Laws.{rnd-le}
-use Rattle.elimination.specs.Matrix.{Within}
 use Rattle.elimination.specs.Claims.{Factors}
 use Rattle.substitution.specs.Passes.{loss, reduced, reduce-entry, forward}
 use Rattle.substitution.specs.Bounds.{right-limit, forward-limit, Forward, Backward, Reducible}
 
-limit-mono : (i j : ℕ) → i ≤ j → forward-limit i ≤ forward-limit j
-limit-mono i j h = omega (arith, pow-mono {i = i} {j = j} h)
-
-limit-low : (i : ℕ) → right-limit ≤ forward-limit i
-limit-low i = omega (arith, pow-pos i)
-
 module _ (row z : List ℤ) (i : ℕ) (h : Reducible row z i) where
-  -- the product at a place below i, and the loss there
-  product-le : (j : ℕ) → j < i → natAbs (getD row j (pos 0) *ℤ getD z j (pos 0)) ≤ forward-limit j * 16384
-  product-le j l = omega (arith, natAbs-*ℤ (getD row j (pos 0)) (getD z j (pos 0)), mul-le-mul (h .multipliers j l) (h .above j l))
-
+  -- the loss at a place below i
   loss-le : (j : ℕ) → j < i → natAbs (loss row z j) ≤ forward-limit j
-  loss-le j l = rnd-le (getD row j (pos 0) *ℤ getD z j (pos 0)) (pos 16384) (forward-limit j) (product-le j l)
+  loss-le j l =
+      rnd-le (getD row j (pos 0) *ℤ getD z j (pos 0)) (pos 16384) (forward-limit j)
+      (omega (arith, product-ok (getD row j (pos 0)) (getD z j (pos 0)) _ _ (h .multipliers j l) (h .above j l)))
 
   reduced-le : (j : ℕ) → j ≤ i → natAbs (reduced row z (getD z i (pos 0)) j) ≤ forward-limit j
   reduced-le zero l = omega (arith, h .own)
@@ -49,16 +40,18 @@ module _ (row z : List ℤ) (i : ℕ) (h : Reducible row z i) where
   multiplier-fits j l = sfits-size (omega (arith, h .multipliers j l))
 
   pub entry-fits : (j : ℕ) → j < i → SFits w64 (getD z j (pos 0))
-  entry-fits j l = let p = h .place in sfits-size (omega (arith, h .above j l, limit-mono j 6 (omega arith)))
+  entry-fits j l = let p = h .place in sfits-size (omega (arith, h .above j l, pow-mono {i = j} {j = 6} (omega arith)))
 
   pub product-small : (j : ℕ) → j < i → natAbs (getD row j (pos 0) *ℤ getD z j (pos 0)) < 2 ^ 63
-  product-small j l = let p = h .place in omega (arith, product-le j l, limit-mono j 6 (omega arith))
+  product-small j l =
+      let p = h .place in
+      omega (arith, product-ok (getD row j (pos 0)) (getD z j (pos 0)) _ _ (h .multipliers j l) (h .above j l), pow-mono {i = j} {j = 6} (omega arith))
 
   pub loss-fits : (j : ℕ) → j < i → SFits w64 (loss row z j)
-  loss-fits j l = let p = h .place in sfits-size (omega (arith, loss-le j l, limit-mono j 6 (omega arith)))
+  loss-fits j l = let p = h .place in sfits-size (omega (arith, loss-le j l, pow-mono {i = j} {j = 6} (omega arith)))
 
   pub reduced-fits : (j : ℕ) → j ≤ i → SFits w64 (reduced row z (getD z i (pos 0)) j)
-  reduced-fits j l = let p = h .place in sfits-size (omega (arith, reduced-le j l, limit-mono j 7 (omega arith)))
+  reduced-fits j l = let p = h .place in sfits-size (omega (arith, reduced-le j l, pow-mono {i = j} {j = 7} (omega arith)))
 
 -- the pass: entries above i are reduced, the others are as they were
 pub record Grown (z : List ℤ) (i : ℕ) : Type 0 where
@@ -77,7 +70,7 @@ grown-set z i v g h =
       where
         go : Dec (l < i) → natAbs (getD z l (pos 0)) ≤ forward-limit l
         go (yes p) = g .above l p
-        go (no p) = omega (arith, g .fresh l (omega arith), limit-low l)
+        go (no p) = omega (arith, g .fresh l (omega arith), pow-pos l)
 
 pub reducible : (w : List (List ℤ)) (n : ℕ) (z : List ℤ) (i : ℕ) → n ≤ 8 → Factors n w → i < n → Grown z i → Reducible (getD w i []) z i
 reducible w n z i r h l g =
@@ -108,8 +101,8 @@ module _ (w : List (List ℤ)) (z : List ℤ) (n : ℕ) (h : Forward w z n) wher
       g = forward-grown n (omega arith)
 
       go : Dec (l < n) → natAbs (getD (forward w z n) l (pos 0)) ≤ forward-limit 7
-      go (yes p) = let r = h .rows in omega (arith, g .above l p, limit-mono l 7 (omega arith))
-      go (no p) = omega (arith, g .fresh l (omega arith), limit-low 7)
+      go (yes p) = let r = h .rows in omega (arith, g .above l p, pow-mono {i = l} {j = 7} (omega arith))
+      go (no p) = omega (arith, g .fresh l (omega arith))
 
   -- so the backward pass may follow
   pub backward-ready : Backward w (forward w z n) n

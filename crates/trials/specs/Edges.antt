@@ -1,26 +1,20 @@
 -- The printed case and its record, byte for byte, and those trials of document 01, "Trials at the edges", that are about bytes. Assumes nothing.
 use mathlib.Core.Path.{_≡_, refl}
-use mathlib.Core.List.{List, [], _∷_, _++_, map, List·Memᴰ}
+use mathlib.Core.List.{List, [], _∷_, map, List·Memᴰ}
 use Prim.Native.Nat.{ℕ}
-use lib.ListN.{take, drop, replicate}
+use lib.ListN.{replicate}
 use lib.IntN.{pos}
 use Rattle.outcome.specs.declared.Outcome.the-variants.{Count}
 use Rattle.buffer.specs.Buffer.{onto}
-use Rattle.casefile.specs.Case.{Case}
+use Rattle.casefile.specs.Case.{Case, given}
 use Rattle.casefile.specs.Layout.{encode}
-use Rattle.casefile.specs.Write.{leaves, given}
-use Rattle.ballast.specs.Call.{shortest, call}
+use Rattle.casefile.specs.Write.{leaves}
+use Rattle.casefile.specs.Examples.{printedBytes, nineTanks, leastCoefficient}
+use Rattle.recordfile.specs.Layout.{longestRecord}
+use Rattle.ballast.specs.Call.{call}
 use Rattle.trials.specs.Result.{Result, refused, resultOf, lent, found}
 use Rattle.trials.specs.Trials.{printed}
 use Rattle.trials.specs.Statement.{agree}
-
--- `01 0003 01 01 01 02 000C 0005 0000 FFFFFFFE 00000000 FF 0000`
-abbrev pub printedCase : List ℕ
-printedCase =
-    0x01 ∷ 0x00 ∷ 0x03 ∷ 0x01 ∷ 0x01 ∷ 0x01
-    ∷ 0x02 ∷ 0x00 ∷ 0x0C ∷ 0x00 ∷ 0x05 ∷ 0x00 ∷ 0x00 ∷ 0xFF ∷ 0xFF ∷ 0xFF ∷ 0xFE ∷ 0x00 ∷ 0x00 ∷ 0x00 ∷ 0x00
-    ∷ 0xFF ∷ 0x00 ∷ 0x00
-    ∷ []
 
 -- "`10 0003 01 00 01 11 0004 FFFFFFFC 12 0010`, sixteen bytes 00, `13 0002 00 01 FF 0000`"
 abbrev pub printedRecord : List ℕ
@@ -34,11 +28,11 @@ printedRecord =
     ∷ 0xFF ∷ 0x00 ∷ 0x00
     ∷ []
 
-pub printed-case : encode (printed .case) ≡ printedCase
+pub printed-case : encode (printed .case) ≡ printedBytes
 unfolding found
 printed-case = refl
 
-pub printed-record : call printedCase (lent shortest) ≡ leaves (Count 40) (onto printedRecord (lent shortest))
+pub printed-record : call printedBytes (lent longestRecord) ≡ leaves (Count 40) (onto printedRecord (lent longestRecord))
 unfolding found
 printed-record = refl
 
@@ -59,11 +53,11 @@ empty-input = record { input = []; room = 180; number = 2 }
 
 -- "n 9 is refusal 6"
 abbrev nine-tanks : Edge
-nine-tanks = record { input = 0x01 ∷ 0x00 ∷ 0x03 ∷ 0x09 ∷ 0x00 ∷ 0x01 ∷ []; room = 180; number = 6 }
+nine-tanks = record { input = nineTanks; room = 180; number = 6 }
 
--- "Coefficient −32,768: 6.": the printed case with that coefficient, 8000
+-- "Coefficient −32,768: 6."
 abbrev least-coefficient : Edge
-least-coefficient = record { input = take 9 printedCase ++ (0x80 ∷ 0x00 ∷ drop 11 printedCase); room = 180; number = 6 }
+least-coefficient = record { input = leastCoefficient; room = 180; number = 6 }
 
 abbrev pub edges : List Edge
 edges = short-buffer ∷ empty-input ∷ nine-tanks ∷ least-coefficient ∷ []
@@ -85,6 +79,6 @@ each-edge-refused e m = agree edgeOutcome edgeRefusal m edges-refused
 abbrev pub eightTanks : Case
 eightTanks = given 8 0 0 (replicate 64 (pos 0)) (replicate 64 0) (replicate 8 (pos 0)) (replicate 8 0) (replicate 8 (pos 0))
 
-pub eight-tanks : call (encode eightTanks) (lent shortest) .outcome ≡ Count 180
+pub eight-tanks : call (encode eightTanks) (lent longestRecord) .outcome ≡ Count 180
 unfolding found
 eight-tanks = refl

@@ -5,7 +5,7 @@ use mathlib.Core.List.{List, [], _∷_}
 use lib.ListN.{getD}
 use lib.IntN.{ℤ, pos, _-ℤ_, _*ℤ_}
 use Rattle.casefile.specs.Case.{Case}
-use Rattle.ballast.specs.Call.{shortest}
+use Rattle.recordfile.specs.Layout.{longestRecord}
 use Rattle.trials.specs.Result.{refused, lent, found}
 use Rattle.trials.specs.Trials.{tanks}
 
@@ -17,6 +17,6 @@ determinant A = getD A 0 (pos 0) *ℤ getD A 3 (pos 0) -ℤ getD A 1 (pos 0) *�
 abbrev pub nearEqual : Case
 nearEqual = tanks (pos 32767 ∷ pos 1 ∷ pos 32766 ∷ pos 1 ∷ []) (pos 0 ∷ pos 0 ∷ [])
 
-pub not-singular : (determinant (nearEqual .coefficients) ≡ pos 1) × (found nearEqual ≡ refused 8 (lent shortest))
+pub not-singular : (determinant (nearEqual .coefficients) ≡ pos 1) × (found nearEqual ≡ refused 8 (lent longestRecord))
 unfolding found
 not-singular = (refl, refl)

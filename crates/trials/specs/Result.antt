@@ -4,7 +4,7 @@ use mathlib.Core.List.{List}
 use Prim.Native.Nat.{ℕ}
 use lib.ListN.{take, drop, replicate}
 use lib.IntN.{ℤ}
-use Rattle.integers.specs.Tables.{table, filled}
+use Rattle.integers.specs.Tables.{table, filled, fill}
 use Rattle.rounding.specs.Half.{rounds-up}
 use Rattle.rounding.specs.Round.{near, rnd}
 use Rattle.fractions.specs.Fraction.{ordered, order}
@@ -16,21 +16,21 @@ use Rattle.outcome.specs.declared.Outcome.{Outcome}
 use Rattle.outcome.specs.declared.Outcome.the-variants.{Count, Refused}
 use Rattle.outcome.specs.Outcome.{numberOf}
 use Rattle.bigendian.specs.Number.{be, bytes}
-use Rattle.figures.specs.Figures.{figures, spread, all}
+use Rattle.figures.specs.Figures.{items, spread, all}
 use Rattle.fields.specs.Field.{field, fieldStatus}
 use Rattle.casefile.specs.Case.{Case}
 use Rattle.casefile.specs.Layout.{rowBytes, split, encode}
-use Rattle.casefile.specs.Decode.{headStatus, rowOf, rowFine, rowStatus, rowsStatus, rowsOf, afterRows, trialStatus, trialOf, afterTrial, endStatus, inputStatus, caseOf, decode, stored}
+use Rattle.casefile.specs.Decode.{headStatus, rowOf, rowFine, rowStatus, rowsStatus, trialStatus, trialOf, afterTrial, endStatus, inputStatus, caseOf, decode, stored}
 use Rattle.casefile.specs.Write.{Written}
-use Rattle.elimination.specs.Matrix.{fill}
 use Rattle.elimination.specs.Steps.{working-row, working, pivot-from, pivot-row, eliminated-row, eliminated-below, advanced, after-steps, eliminated}
 use Rattle.elimination.specs.Outcome.{outcome}
 use Rattle.substitution.specs.Passes.{forward, correction, backward-from, backward}
 use Rattle.solver.specs.Refinement.{gained-from, updated, round, refined}
 use Rattle.solver.specs.Solution.{solution}
-use Rattle.recordfile.specs.Layout.{run, judgedFields, recordOf}
+use Rattle.buffer.specs.Buffer.{run}
+use Rattle.recordfile.specs.Layout.{judgedFields, recordOf, longestRecord}
 use Rattle.recordfile.specs.ReadOff.{recordedRounds, recordedAnswer, recordedFinding}
-use Rattle.ballast.specs.Call.{worked, answer-of, finished, shortest, call}
+use Rattle.ballast.specs.Call.{worked, answer-of, finished, call}
 
 -- ---- what a record says
 
@@ -92,5 +92,5 @@ lent room = replicate room 0xA5
 -- the call on a case's bytes, with the shortest result buffer that it takes. The line below names all that the call computes with, once for
 -- every statement about it
 unfoldable pub found : Case → Result
-unfolding encode rowBytes split spread call decode inputStatus caseOf headStatus rowsStatus rowStatus rowOf rowFine rowsOf afterRows trialStatus trialOf afterTrial endStatus stored fieldStatus figures all be worked answer-of solution eliminated after-steps advanced pivot-row pivot-from eliminated-below eliminated-row working working-row fill outcome refined round updated gained-from forward backward backward-from correction rnd near rounds-up judgement first-unmet first-not deciding first-greatest order ordered residual reach filled finished recordOf judgedFields run field bytes
-found c = resultOf (c .n) (call (encode c) (lent shortest))
+unfolding encode rowBytes split spread call decode inputStatus caseOf headStatus rowsStatus rowStatus rowOf rowFine trialStatus trialOf afterTrial endStatus stored fieldStatus items all be worked answer-of solution eliminated after-steps advanced pivot-row pivot-from eliminated-below eliminated-row working working-row fill outcome refined round updated gained-from forward backward backward-from correction rnd near rounds-up judgement first-unmet first-not deciding first-greatest order ordered residual reach filled finished recordOf judgedFields run field bytes
+found c = resultOf (c .n) (call (encode c) (lent longestRecord))

@@ -4,15 +4,14 @@ use mathlib.Core.Path.{_≡_, refl}
 use mathlib.Core.List.{List, map, List·Memᴰ, List·Memᴰ·head, List·Memᴰ·tail}
 use Prim.Native.Nat.{ℕ}
 use lib.ListN.{drop}
-use Rattle.recordfile.specs.Layout.{recordLength}
-use Rattle.ballast.specs.Call.{shortest}
+use Rattle.recordfile.specs.Layout.{recordLength, longestRecord}
 use Rattle.trials.specs.Result.{Result, recorded, refused, lent, found}
 use Rattle.trials.specs.Trials.{Expected, figures, refusal, Trial, trials}
 
 -- "The count returned is the record's length", "beyond the record stays as it was", "Any refusal .. returns its number and changes no byte"
 abbrev pub due : ℕ → Expected → Result
-due n (figures g) = recorded (recordLength n) g (drop (recordLength n) (lent shortest))
-due n (refusal k) = refused k (lent shortest)
+due n (figures g) = recorded (recordLength n) g (drop (recordLength n) (lent longestRecord))
+due n (refusal k) = refused k (lent longestRecord)
 
 abbrev pub outcomeOf : Trial → Result
 outcomeOf t = found (t .case)

@@ -4,8 +4,7 @@ use mathlib.Core.Bool.{true, false}
 use mathlib.Core.List.{List, [], _∷_}
 use Prim.Native.Nat.{ℕ}
 use lib.IntN.{ℤ, pos, negsuc}
-use Rattle.casefile.specs.Case.{Case}
-use Rattle.casefile.specs.Write.{given}
+use Rattle.casefile.specs.Case.{Case, given}
 use Rattle.trials.specs.Result.{Factor, ratio, none, Figures}
 
 -- ---- trials

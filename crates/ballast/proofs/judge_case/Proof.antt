@@ -2,59 +2,60 @@
 -- Assumes nothing.
 use mathlib.Core.Path.{sym, ap, _∙_}
 use denote.Ref.{now}
-use Rattle.ballast.specs.CallLaws.{call-short, call-refused, call-recorded}
+use Rattle.casefile.specs.Decode.{decode}
+use Rattle.casefile.specs.WriteLaws.{filed-short, filed-refused, filed-whole}
+use Rattle.recordfile.specs.Layout.{longestRecord}
+use Rattle.recordfile.specs.Laws.{length-record}
+use Rattle.ballast.specs.Call.{answer-of, record-of, finished, call}
 use Rattle.ballast.specs.Theorem.{promised, answer-recordable}
 use borrow.Author.Needs.{needs}
 use Rattle.ballast.proofs.judge_case.Statement.{statement}
 use Rattle.ballast.proofs.judge_case.Tie as tie
 
 returns : tie.Need-returns
+unfolding call finished
 returns c =
     let a = c .before .before .before .args in
-    promised (now (a .input)) (now (a .out)) _ _ (call-short (now (a .input)) (now (a .out)) (c .if1 .taken))
-
-answer-case-requires : tie.Need-answer-case-requires
-answer-case-requires c κs = search needs
-
-enum-known-status : tie.Need-enum-known-status
-enum-known-status c = search needs
+    let x = answer-of (decode (now (a .input))) in
+    promised (now (a .input)) (now (a .out)) _ _ (filed-short longestRecord (x .status) (record-of x) (now (a .out)) (c .if1 .taken))
 
 returns-2 : tie.Need-returns-2
+unfolding call finished
 returns-2 c =
-    let a = c .before .before .before .before .before .before .before .args in
+    let k = c .before .before .before in
+    let a = k .before .before .before .before .args in
+    let x = answer-of (decode (now (a .input))) in
     promised (now (a .input)) (now (a .out)) _ _
-    (call-refused (now (a .input)) (now (a .out)) _ (c .before .before .before .before .if1 .left) (ap (λ x. x .status) (sym (c .before .before .before .answer-case .ensures)) ∙ c .before .status .given .1))
-
-enum-told : tie.Need-enum-told
-enum-told c = search needs
+    (filed-refused longestRecord (x .status) (record-of x) (now (a .out)) _ (k .before .if1 .left) (ap (λ y. y .status) (sym (k .answer-case .ensures)) ∙ c .before .status .given .1))
 
 write-record-requires : tie.Need-write-record-requires
 write-record-requires c κs =
     let e = c .before .before .before in
-    let a = e .before .before in
-    answer-recordable (now (a .before .before .before .before .args .input)) _ _ (a .answer-case .ensures) (e .enum-told .given .1) (a .before .if1 .left)
-
-same-length : tie.Need-same-length
-same-length c = search needs
+    let k = e .before .before in
+    answer-recordable (now (k .before .before .before .before .args .input)) _ _ (k .answer-case .ensures) (e .enum-told .given .1) (k .before .if1 .left)
 
 returns-3 : tie.Need-returns-3
+unfolding call finished
 returns-3 c =
     let e = c .before .before .before .before .before .before in
-    let a = e .before .before in
-    let x = a .before .before .before .before .args in
+    let k = e .before .before in
+    let a = k .before .before .before .before .args in
+    let x = k .answer-case .result in
     let w = c .before .before .write-record .ensures in
-    promised (now (x .input)) (now (x .out)) _ _
-    (call-recorded (now (x .input)) (now (x .out)) _ _ _ (a .answer-case .ensures) (a .before .if1 .left) (e .enum-told .given .1) (w .count) (w .buffer))
+    promised (now (a .input)) (now (a .out)) _ _
+    (rw (← (k .answer-case .ensures))
+    (filed-whole longestRecord (x .status) (record-of x) (now (a .out)) _ _ (k .before .if1 .left) (e .enum-told .given .1)
+    (w .count ∙ sym (length-record (x .n) (x .rounds) (x .trial) (x .judgement))) (w .buffer)))
 
 pub judge-case-spec : {M : Type 1} → statement M
 judge-case-spec =
     tie.close
     (tie.spec
     returns
-    answer-case-requires
-    enum-known-status
+    (λ c κs. search needs)
+    (λ c. search needs)
     returns-2
-    enum-told
+    (λ c. search needs)
     write-record-requires
-    same-length
+    (λ c. search needs)
     returns-3)

@@ -1,55 +1,52 @@
 -- `ballast_c::ballast_check_case` meets its contract, by what the reader says. Assumes nothing.
-use mathlib.Core.Path.{sym, ap, _∙_}
+use mathlib.Core.Path.{ap, _∙_}
+use mathlib.Core.List.{List}
+use Prim.Native.Nat.{ℕ}
 use denote.Ref.{now}
 use mir.Facts.{toZ-ofZ}
 use borrow.Author.Needs.{needs}
+use Rattle.casefile.specs.declared.Case.{Case}
 use Rattle.casefile.specs.Decode.{decode}
-use Rattle.ballast.specs.CallLaws.{reading-refused, reading-accepted}
+use Rattle.casefile.specs.StoredLaws.{Whole, reading-accepted, reading-refused}
 use Rattle.ballast_c.specs.Result.{number}
 use Rattle.ballast_c.specs.Laws.{small-refused, small-count, tanks-refused, tanks-accepted, few-tanks}
 use Rattle.ballast_c.proofs.ballast_check_case.Statement.{statement}
 use Rattle.ballast_c.proofs.ballast_check_case.Tie as tie
 
-read-case-requires : tie.Need-read-case-requires
-read-case-requires c κs = search needs
+-- the case of a file that was not refused
+module _ (c : tie.After-enum-told) where
+  abbrev file : List ℕ
+  file = now (c .before .before .before .before .args .input)
 
-enum-known-status : tie.Need-enum-known-status
-enum-known-status c = search needs
+  abbrev case : Case
+  case = c .before .before .read-case .result .case
 
-result-requires : tie.Need-result-requires
-result-requires c κs = small-refused _
+  whole : Whole (decode file) case
+  whole =
+      let r = c .before .before .read-case in
+      reading-accepted (decode file) (r .result) (r .ensures) (c .enum-told .given .1)
 
 returns : tie.Need-returns
 returns c =
-    let s = now (c .before .before .before .before .before .before .args .input) in
-    let e = ap (λ x. x .status) (sym (c .before .before .before .before .read-case .ensures)) ∙ c .before .before .status .given .1 in
-    toZ-ofZ (record { sfits = c .result .ok }) ∙ c .result .ensures ∙ ap number (tanks-refused (decode s) _ (reading-refused (decode s) _ e))
-
-enum-told : tie.Need-enum-told
-enum-told c = search needs
-
-result-requires-2 : tie.Need-result-requires-2
-result-requires-2 c κs =
-    let s = now (c .before .before .before .before .before .args .input) in
-    let r = c .before .before .before .read-case in
-    let e = ap (λ x. x .status) (sym (r .ensures)) ∙ c .before .enum-told .given .1 in
-    small-count _ (few-tanks s (r .result .case) (rw (r .ensures) (reading-accepted (decode s) e)))
+    let k = c .before .before .before .before in
+    let s = now (k .before .before .args .input) in
+    let r = k .read-case in
+    toZ-ofZ (record { sfits = c .result .ok }) ∙ c .result .ensures
+    ∙ ap number (tanks-refused (decode s) _ (reading-refused (decode s) (r .result) (r .ensures) _ (c .before .before .status .given .1)))
 
 returns-2 : tie.Need-returns-2
 returns-2 c =
-    let s = now (c .before .before .before .before .before .before .args .input) in
-    let r = c .before .before .before .before .read-case in
-    let e = ap (λ x. x .status) (sym (r .ensures)) ∙ c .before .before .enum-told .given .1 in
-    toZ-ofZ (record { sfits = c .result2 .ok }) ∙ c .result2 .ensures ∙ ap number (tanks-accepted (decode s) (r .result .case) (rw (r .ensures) (reading-accepted (decode s) e)))
+    let d = c .before .before in
+    toZ-ofZ (record { sfits = c .result2 .ok }) ∙ c .result2 .ensures ∙ ap number (tanks-accepted (decode (file d)) (case d) (whole d))
 
 pub ballast-check-case-spec : {M : Type 1} → statement M
 ballast-check-case-spec =
     tie.close
     (tie.spec
-    read-case-requires
-    enum-known-status
-    result-requires
+    (λ c κs. search needs)
+    (λ c. search needs)
+    (λ c κs. small-refused _)
     returns
-    enum-told
-    result-requires-2
+    (λ c. search needs)
+    (λ c κs. small-count _ (few-tanks (file (c .before)) (case (c .before)) (whole (c .before))))
     returns-2)

@@ -4,6 +4,7 @@ use denote.Ref.{now}
 use lib.Seq.{length-take-le}
 use mir.Facts.{toZ-ofZ}
 use borrow.Author.Needs.{needs}
+use Rattle.report.specs.Text.{text-room}
 use Rattle.ballast_c.specs.Laws.{small-refused, small-count, text-short, text-le, text-written}
 use Rattle.ballast_c.proofs.ballast_verdict_text.Statement.{statement}
 use Rattle.ballast_c.proofs.ballast_verdict_text.Tie as tie
@@ -12,13 +13,15 @@ result-requires : tie.Need-result-requires
 result-requires c κs = small-refused _
 
 returns : tie.Need-returns
-returns c = text-short _ _ _ (c .before .if1 .taken) (toZ-ofZ (record { sfits = c .result .ok }) ∙ c .result .ensures)
+returns c =
+    let a = c .before .before .before .before .args in
+    text-short (now (a .input)) (now (a .out)) _ (c .before .if1 .taken) (toZ-ofZ (record { sfits = c .result .ok }) ∙ c .result .ensures)
 
 slice-relend-prefix-verdict-text : tie.Need-slice-relend-prefix-verdict-text
 slice-relend-prefix-verdict-text c = search needs
 
 slice-aggregate-verdict-text : tie.Need-slice-aggregate-verdict-text
-slice-aggregate-verdict-text c = sym (length-take-le 800 (now (c .before .before .before .before .args .out)) (c .before .if1 .left))
+slice-aggregate-verdict-text c = sym (length-take-le text-room (now (c .before .before .before .before .args .out)) (c .before .if1 .left))
 
 verdict-text-requires : tie.Need-verdict-text-requires
 verdict-text-requires c κs = search needs

@@ -12,21 +12,6 @@ use borrow.Author.Needs.{needs}
 use Rattle.bigendian.proofs.write_u16.Statement.{statement}
 use Rattle.bigendian.proofs.write_u16.Tie as tie
 
-cast-out : tie.Need-cast-out
-cast-out c = search needs
-
-slice-write-out : tie.Need-slice-write-out
-slice-write-out c = search needs
-
-cast-out-2 : tie.Need-cast-out-2
-cast-out-2 c = search needs
-
-slice-write-out-2 : tie.Need-slice-write-out-2
-slice-write-out-2 c = search needs
-
-same-length : tie.Need-same-length
-same-length c = search needs
-
 returns : tie.Need-returns
 unfolding bytes
 returns c = let x = c .args .x in
@@ -34,4 +19,4 @@ returns c = let x = c .args .x in
 
 pub write-u16-spec : {M : Type 1} → statement M
 write-u16-spec =
-    tie.close (tie.spec cast-out slice-write-out cast-out-2 slice-write-out-2 same-length returns)
+    tie.close (tie.spec (λ c. search needs) (λ c. search needs) (λ c. search needs) (λ c. search needs) (λ c. search needs) returns)

@@ -1,85 +1,75 @@
 -- `case_reader::read_head` meets its contract: the field's refusal, then the limits of n, e and K.
 -- Assumes nothing.
+use Prim.Native.Nat.{ℕ, _≤_}
 use native.Mathlib.Omega.{arith}
-use mathlib.Core.Bool.{Bool, true, false}
-use mathlib.Core.Path.{_≡_, sym, ap, _∙_}
-use lib.Seq.{getD-drop}
+use mathlib.Core.Bool.{true, false}
+use mathlib.Core.List.{List}
+use mathlib.Core.Path.{_≡_, refl, sym, _∙_}
+use lib.ListN.{length}
 use denote.Ref.{now}
 use Rattle.outcome.specs.declared.Refusal.the-variants.{OutsideLimits}
-use Rattle.outcome.specs.Outcome.{check}
-use Rattle.outcome.specs.Laws.{first-stops, first-goes-on}
+use Rattle.outcome.specs.declared.Status.the-variants.{Accepted}
+use Rattle.outcome.specs.Laws.{stops, not-both}
+use Rattle.fields.specs.Field.{fieldStatus}
 use Rattle.fields.specs.FieldLaws.{field-room}
-use Rattle.casefile.specs.Layout.{headTag, headLength}
 use Rattle.casefile.specs.Case.{headFine}
-use Rattle.casefile.specs.Decode.{headByte, headStatus}
+use Rattle.casefile.specs.Layout.{headTag, headLength, nAt, exponentAt, roundsAt, rowsAt}
+use Rattle.casefile.specs.Decode.{headTanks, headExponent, headRounds, headStatus}
 use borrow.Author.Needs.{needs}
 use Rattle.case_reader.proofs.read_head.Statement.{statement}
 use Rattle.case_reader.proofs.read_head.Tie as tie
 
-check-field-requires : tie.Need-check-field-requires
-check-field-requires c κs = search needs
+-- the input, its first field not refused
+module _ (k : tie.After-enum-told2) where
+  abbrev s : List ℕ
+  s = now (k .before .before .before .before .args .s)
 
-enum-told : tie.Need-enum-told
-enum-told c = search needs
+  field-fine : fieldStatus headTag headLength s ≡ Accepted
+  field-fine = sym (k .before .before .check-field .ensures) ∙ k .enum-told2 .given .1
+
+  long : rowsAt ≤ length s
+  long = field-room headTag headLength s field-fine
 
 returns : tie.Need-returns
 unfolding headStatus
-returns c = c .before .before .check-field .ensures ∙ first-stops _ _ _ (sym (c .before .before .check-field .ensures) ∙ c .enum-told .given .1)
-
-enum-told-2 : tie.Need-enum-told-2
-enum-told-2 c = search needs
-
-shared-slice-read-n : tie.Need-shared-slice-read-n
-shared-slice-read-n c = omega (arith, field-room headTag headLength (now (c .before .before .before .before .before .args .s)) (sym (c .before .before .before .check-field .ensures) ∙ c .before .enum-told2 .given .1))
+returns c = let told = c .enum-told .given .1 in
+    record { status = stops _ (c .before .before .check-field .ensures) told; made = λ e. not-both _ _ told e }
 
 cast-n : tie.Need-cast-n
-cast-n c = omega (arith, c .before .before .before .before .shared-slice-known .given 3)
-
-shared-slice-read-exponent : tie.Need-shared-slice-read-exponent
-shared-slice-read-exponent c = omega (arith, field-room headTag headLength (now (c .before .before .before .before .before .before .args .s)) (sym (c .before .before .before .before .check-field .ensures) ∙ c .before .before .enum-told2 .given .1))
+cast-n c = omega (arith, c .before .before .before .before .shared-slice-known .given nAt)
 
 cast-exponent : tie.Need-cast-exponent
-cast-exponent c = omega (arith, c .before .before .before .before .before .shared-slice-known .given 4)
-
-shared-slice-read-rounds : tie.Need-shared-slice-read-rounds
-shared-slice-read-rounds c = omega (arith, field-room headTag headLength (now (c .before .before .before .before .before .before .before .args .s)) (sym (c .before .before .before .before .before .check-field .ensures) ∙ c .before .before .before .enum-told2 .given .1))
+cast-exponent c = omega (arith, c .before .before .before .before .before .shared-slice-known .given exponentAt)
 
 cast-rounds : tie.Need-cast-rounds
-cast-rounds c = omega (arith, c .before .before .before .before .before .before .shared-slice-known .given 5)
-
-head-fine-requires : tie.Need-head-fine-requires
-head-fine-requires c κs = search needs
+cast-rounds c = omega (arith, c .before .before .before .before .before .before .shared-slice-known .given roundsAt)
 
 returns-2 : tie.Need-returns-2
 unfolding headStatus
-returns-2 c = let s = now (c .before .before .before .before .before .before .before .before .before .args .s) in
-    let h : headFine (headByte 0 s) (headByte 1 s) (headByte 2 s) ≡ true =
-    rw (getD-drop 3 s 0 0, getD-drop 3 s 1 0, getD-drop 3 s 2 0) (sym (c .before .head-fine .ensures) ∙ c .if1 .taken) in
-    sym (ap (λ (b : Bool). check b OutsideLimits) h)
-    ∙ first-goes-on _ _ (sym (c .before .before .before .before .before .before .before .check-field .ensures) ∙ c .before .before .before .before .before .enum-told2 .given .1)
+returns-2 c = let k = c .before .before .before .before .before in
+    let h : headFine (headTanks (s k)) (headExponent (s k)) (headRounds (s k)) ≡ true = sym (c .before .head-fine .ensures) ∙ c .if1 .taken in
+    record { status = rw (field-fine k, h); made = λ _. (refl, refl, refl) }
 
 returns-3 : tie.Need-returns-3
 unfolding headStatus
-returns-3 c = let s = now (c .before .before .before .before .before .before .before .before .before .args .s) in
-    let h : headFine (headByte 0 s) (headByte 1 s) (headByte 2 s) ≡ false =
-    rw (getD-drop 3 s 0 0, getD-drop 3 s 1 0, getD-drop 3 s 2 0) (sym (c .before .head-fine .ensures) ∙ c .if1 .left) in
-    sym (ap (λ (b : Bool). check b OutsideLimits) h)
-    ∙ first-goes-on _ _ (sym (c .before .before .before .before .before .before .before .check-field .ensures) ∙ c .before .before .before .before .before .enum-told2 .given .1)
+returns-3 c = let k = c .before .before .before .before .before in
+    let h : headFine (headTanks (s k)) (headExponent (s k)) (headRounds (s k)) ≡ false = sym (c .before .head-fine .ensures) ∙ c .if1 .left in
+    record { status = rw (field-fine k, h); made = λ e. not-both _ OutsideLimits refl e }
 
 pub read-head-spec : {M : Type 1} → statement M
 read-head-spec =
     tie.close
     (tie.spec
-    check-field-requires
-    enum-told
+    (λ c κs. search needs)
+    (λ c. search needs)
     returns
-    enum-told-2
-    shared-slice-read-n
+    (λ c. search needs)
+    (λ c. omega (arith, long (c .before)))
     cast-n
-    shared-slice-read-exponent
+    (λ c. omega (arith, long (c .before .before)))
     cast-exponent
-    shared-slice-read-rounds
+    (λ c. omega (arith, long (c .before .before .before)))
     cast-rounds
-    head-fine-requires
+    (λ c κs. search needs)
     returns-2
     returns-3)

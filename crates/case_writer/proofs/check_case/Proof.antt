@@ -2,12 +2,10 @@
 -- Assumes nothing.
 use mathlib.Core.Path.{_≡_, sym, _∙_}
 use mathlib.Core.Bool.{true}
-use lib.Dec.{leb}
 use denote.Ref.{now}
-use borrow.Author.Tests.{not-true, not-false, leb-true}
-use Rattle.figures.specs.FigureLaws.{and-true}
-use Rattle.casefile.specs.Case.{Case, mostTanks, headFine, counted, figuresFine, caseStatus}
-use Rattle.casefile.specs.Write.{given}
+use borrow.Author.Tests.{not-true, not-false}
+use Rattle.casefile.specs.Case.{Case, given, headFine, counted, figuresFine, caseStatus}
+use Rattle.casefile.specs.CaseLaws.{head-small}
 use borrow.Author.Needs.{needs}
 use Rattle.case_writer.proofs.check_case.Statement.{statement}
 use Rattle.case_writer.proofs.check_case.Tie as tie
@@ -57,9 +55,8 @@ returns c = rw (sym (head-is (c .before)) ∙ not-true _ (c .if1 .taken))
 
 counts-fine-requires : tie.Need-counts-fine-requires
 counts-fine-requires c κs =
-    let n = start (c .before) .args .n in
-    let h = and-true (leb 1 n) _ (sym (head-is (c .before)) ∙ not-false _ (c .if1 .left)) in
-    leb-true _ _ (and-true (leb n mostTanks) _ (h .1) .0)
+    let a = start (c .before) .args in
+    head-small (a .n) (a .exponent) (a .rounds) (sym (head-is (c .before)) ∙ not-false _ (c .if1 .left)) .small
 
 returns-2 : tie.Need-returns-2
 unfolding caseStatus

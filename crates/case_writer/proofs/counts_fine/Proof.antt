@@ -1,62 +1,83 @@
--- `case_writer::counts_fine` meets its contract: each test that was made is the definition's.
+-- `case_writer::counts_fine` meets its contract: each list's test is the definition's.
 -- Assumes nothing.
-use Prim.Native.Nat.{ℕ, _*_}
+use Prim.Native.Nat.{_*_}
 use native.Mathlib.Omega.{arith}
-use native.Mathlib.Nat.{mul-le-mul}
-use mathlib.Core.Bool.{Bool, _&&_}
-use mathlib.Core.List.{List}
-use mathlib.Core.Path.{_≡_, refl, sym, ap}
+use mathlib.Core.Path.{_≡_, ap}
 use lib.ListN.{length}
 use lib.Dec.{eqb}
-use lib.IntN.{ℤ}
 use denote.Ref.{now}
 use borrow.Author.Tests.{eq-eqb, ne-eqb}
-use Rattle.casefile.specs.Case.{trialCount, counted}
-use Rattle.casefile.specs.Write.{given}
+use Rattle.casefile.specs.Case.{counted}
+use Rattle.casefile.specs.RowsLaws.{square-fits}
 use borrow.Author.Needs.{needs}
 use Rattle.case_writer.proofs.counts_fine.Statement.{statement}
 use Rattle.case_writer.proofs.counts_fine.Tie as tie
 
-tests : (n k : ℕ) (a : List ℤ) (t : List ℕ) (b : List ℤ) (f : List ℕ) (y : List ℤ) {b1 b2 b3 b4 b5 : Bool}
-    → eqb (length a) (n * n) ≡ b1
-    → eqb (length t) (n * n) ≡ b2
-    → eqb (length b) n ≡ b3
-    → eqb (length f) n ≡ b4
-    → eqb (length y) (trialCount k n) ≡ b5
-    → (b1 && (b2 && (b3 && (b4 && b5)))) ≡ counted (given n 0 k a t b f y)
-unfolding counted
-tests n k a t b f y e1 e2 e3 e4 e5 = sym (rw (e1, e2, e3, e4, e5))
+-- the tests that were passed
+module _ (c : tie.Else1) where
+  abbrev start : tie.Start
+  start = c .before .before .before
 
-mul-if1 : tie.Need-mul-if1
-mul-if1 c = omega (arith, mul-le-mul (c .before .before .pre) (c .before .before .pre))
+  coefficients-counted : length (now (start .args .a)) ≡ start .args .n * start .args .n
+  coefficients-counted = omega arith
+
+module _ (c : tie.Else2) where
+  tolerances-counted : let a = start (c .before) .args in length (now (a .t)) ≡ a .n * a .n
+  tolerances-counted = omega arith
+
+module _ (c : tie.Else3) where
+  right-sides-counted : let a = start (c .before .before) .args in length (now (a .b)) ≡ a .n
+  right-sides-counted = omega arith
+
+module _ (c : tie.Else4) where
+  right-tolerances-counted : let a = start (c .before .before .before) .args in length (now (a .f)) ≡ a .n
+  right-tolerances-counted = omega arith
 
 returns : tie.Need-returns
-returns c = let x = c .before .before .before .args in
-    tests (x .n) (x .rounds) (now (x .a)) (now (x .t)) (now (x .b)) (now (x .f)) (now (x .y)) (ne-eqb _ _ (c .if1 .taken)) refl refl refl refl
-
-mul-if2 : tie.Need-mul-if2
-mul-if2 c = search needs
+unfolding counted
+returns c =
+    let a = c .before .before .before .args in
+    let e : length (now (a .a)) ≡ a .n * a .n → ⊥ = omega arith in
+    rw (ne-eqb _ _ e)
 
 returns-2 : tie.Need-returns-2
-returns-2 c = let x = c .before .before .before .before .args in
-    tests (x .n) (x .rounds) (now (x .a)) (now (x .t)) (now (x .b)) (now (x .f)) (now (x .y)) (eq-eqb _ _ (c .before .if1 .left)) (ne-eqb _ _ (c .if2 .taken)) refl refl refl
+unfolding counted
+returns-2 c =
+    let a = start (c .before) .args in
+    let e : length (now (a .t)) ≡ a .n * a .n → ⊥ = omega arith in
+    rw (eq-eqb _ _ (coefficients-counted (c .before)), ne-eqb _ _ e)
 
 returns-3 : tie.Need-returns-3
-returns-3 c = let x = c .before .before .before .before .before .args in
-    tests (x .n) (x .rounds) (now (x .a)) (now (x .t)) (now (x .b)) (now (x .f)) (now (x .y)) (eq-eqb _ _ (c .before .before .if1 .left)) (eq-eqb _ _ (c .before .if2 .left)) (ne-eqb _ _ (c .if3 .taken)) refl refl
+unfolding counted
+returns-3 c =
+    let a = start (c .before .before) .args in
+    let e : length (now (a .b)) ≡ a .n → ⊥ = omega arith in
+    rw (eq-eqb _ _ (coefficients-counted (c .before .before)), eq-eqb _ _ (tolerances-counted (c .before)), ne-eqb _ _ e)
 
 returns-4 : tie.Need-returns-4
-returns-4 c = let x = c .before .before .before .before .before .before .args in
-    tests (x .n) (x .rounds) (now (x .a)) (now (x .t)) (now (x .b)) (now (x .f)) (now (x .y)) (eq-eqb _ _ (c .before .before .before .if1 .left)) (eq-eqb _ _ (c .before .before .if2 .left)) (eq-eqb _ _ (c .before .if3 .left)) (ne-eqb _ _ (c .if4 .taken)) refl
-
-trial-count-requires : tie.Need-trial-count-requires
-trial-count-requires c κs = search needs
+unfolding counted
+returns-4 c =
+    let w = c .before in
+    let a = start (w .before .before) .args in
+    let e : length (now (a .f)) ≡ a .n → ⊥ = omega arith in
+    rw (eq-eqb _ _ (coefficients-counted (w .before .before)), eq-eqb _ _ (tolerances-counted (w .before)), eq-eqb _ _ (right-sides-counted w), ne-eqb _ _ e)
 
 returns-5 : tie.Need-returns-5
-returns-5 c = let x = c .before .before .before .before .before .before .before .args in
-    tests (x .n) (x .rounds) (now (x .a)) (now (x .t)) (now (x .b)) (now (x .f)) (now (x .y)) (eq-eqb _ _ (c .before .before .before .before .if1 .left)) (eq-eqb _ _ (c .before .before .before .if2 .left)) (eq-eqb _ _ (c .before .before .if3 .left)) (eq-eqb _ _ (c .before .if4 .left)) (ap (eqb (length (now (x .y)))) (sym (c .trial-count .ensures)))
+unfolding counted
+returns-5 c =
+    let w = c .before in
+    rw (eq-eqb _ _ (coefficients-counted (w .before .before .before)), eq-eqb _ _ (tolerances-counted (w .before .before)), eq-eqb _ _ (right-sides-counted (w .before)), eq-eqb _ _ (right-tolerances-counted w))
+    (ap (eqb _) (c .trial-count .ensures))
 
 pub counts-fine-spec : {M : Type 1} → statement M
 counts-fine-spec =
     tie.close
-    (tie.spec mul-if1 returns mul-if2 returns-2 returns-3 returns-4 trial-count-requires returns-5)
+    (tie.spec
+    (λ c. omega (arith, square-fits _ (c .before .before .pre)))
+    returns
+    (λ c. search needs)
+    returns-2
+    returns-3
+    returns-4
+    (λ c κs. search needs)
+    returns-5)

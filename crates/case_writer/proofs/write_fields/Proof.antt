@@ -1,11 +1,13 @@
--- `case_writer::write_fields` meets its contract: head, rows and tail are the encoding, which fits the buffer.
+-- `case_writer::write_fields` meets its contract: head, rows, trial and end are the encoding, which fits the buffer.
 -- Assumes nothing.
+use Prim.Native.Nat.{_+_, _≤_}
 use native.Mathlib.Omega.{arith}
 use denote.Ref.{now}
-use Rattle.casefile.specs.Case.{Case}
-use Rattle.casefile.specs.Write.{given}
-use Rattle.casefile.specs.CaseLaws.{Good, good}
-use Rattle.case_writer.proofs.Whole.{fields-written, sizes}
+use Rattle.fields.specs.Field.{endSize}
+use Rattle.casefile.specs.Case.{Case, given}
+use Rattle.casefile.specs.Layout.{rowsEnd, trialSize, longestCase}
+use Rattle.casefile.specs.CaseLaws.{Good, good, length-encode, longest}
+use Rattle.case_writer.proofs.Whole.{fields-written}
 use borrow.Author.Needs.{needs}
 use Rattle.case_writer.proofs.write_fields.Statement.{statement}
 use Rattle.case_writer.proofs.write_fields.Tie as tie
@@ -19,75 +21,74 @@ module _ (s : tie.Start) where
   fine : Good case
   fine = good case (s .pre .1)
 
-write-head-requires : tie.Need-write-head-requires
-write-head-requires c κs = let s = c .before .before .before .before in
-    omega (arith, fine s, s .pre .0)
-
-sub-write-rows : tie.Need-sub-write-rows
-sub-write-rows c = search needs
-
-part-write-rows-start : tie.Need-part-write-rows-start
-part-write-rows-start c = search needs
-
-part-write-rows-end : tie.Need-part-write-rows-end
-part-write-rows-end c = search needs
+  size : rowsEnd (s .args .n) + (trialSize (s .args .rounds) (s .args .n) + endSize) ≤ longestCase
+  size = omega (arith, length-encode case fine, longest case (s .pre .1))
 
 write-rows-requires : tie.Need-write-rows-requires
-write-rows-requires c κs = let s = c .before .before .before .before .before .before .before .before in
-    omega (arith, fine s .small, fine s .lists, sizes (case s) (s .pre .1), s .pre .0, c .before .before .before .write-head .kept)
+write-rows-requires c κs =
+    let s = c .before .before .before .before .before .before .before .before in
+    omega (arith, fine s .small, fine s .lists, size s)
 
-rows-end-requires : tie.Need-rows-end-requires
-rows-end-requires c κs = fine (c .before .before .before .before .before .before .before .before .before .before .before) .small
+-- where the calls before the place of the trial stand
+module _ (r : tie.After-rows-end) where
+  abbrev rows : tie.After-write-rows
+  rows = r .before .before .before
 
-sub-write-tail : tie.Need-sub-write-tail
-sub-write-tail c = let s = c .before .before .before .before .before .before .before .before .before .before .before .before in
-    omega (arith, sizes (case s) (s .pre .1), s .pre .0, c .before .before .before .before .before .before .before .write-head .kept, c .before .before .before .write-rows .kept, c .rows-end .ensures)
+  abbrev head : tie.After-write-head
+  head = rows .before .before .before .before
 
-part-write-tail-start : tie.Need-part-write-tail-start
-part-write-tail-start c = let s = c .before .before .before .before .before .before .before .before .before .before .before .before in
-    omega (arith, sizes (case s) (s .pre .1), s .pre .0, c .before .before .before .before .before .before .before .write-head .kept, c .before .before .before .write-rows .kept, c .rows-end .ensures)
+  abbrev start : tie.Start
+  start = head .before .before .before .before .before
 
-part-write-tail-end : tie.Need-part-write-tail-end
-part-write-tail-end c = search needs
+write-trial-requires : tie.Need-write-trial-requires
+write-trial-requires c κs =
+    let r = c .before in
+    omega (arith, fine (start r) .small, fine (start r) .trial-counted, size (start r))
 
-write-tail-requires : tie.Need-write-tail-requires
-write-tail-requires c κs = let s = c .before .before .before .before .before .before .before .before .before .before .before .before .before in
-    omega (arith, fine s .small, fine s .trial-counted, sizes (case s) (s .pre .1), s .pre .0, c .before .before .before .before .before .before .before .before .write-head .kept, c .before .before .before .before .write-rows .kept, c .before .rows-end .ensures)
+-- and before the place of the end
+module _ (z : tie.After-trial-size) where
+  abbrev trial : tie.After-write-trial
+  trial = z .before .before .before
 
-trial-size-requires : tie.Need-trial-size-requires
-trial-size-requires c κs = fine (c .before .before .before .before .before .before .before .before .before .before .before .before .before .before .before .before) .small
+  abbrev tail : tie.After-rows-end
+  tail = trial .before .before
 
-add-result : tie.Need-add-result
-add-result c = let s = c .before .before .before .before .before .before .before .before .before .before .before .before .before .before .before .before .before in
-    omega (arith, sizes (case s) (s .pre .1), c .before .before .before .before .before .rows-end .ensures, c .trial-size .ensures)
-
-add-result-2 : tie.Need-add-result-2
-add-result-2 c = let s = c .before .before .before .before .before .before .before .before .before .before .before .before .before .before .before .before .before in
-    omega (arith, sizes (case s) (s .pre .1), c .before .before .before .before .before .rows-end .ensures, c .trial-size .ensures)
-
-same-length : tie.Need-same-length
-same-length c = search needs
+write-end-requires : tie.Need-write-end-requires
+write-end-requires c κs =
+    let r = tail (c .before) in
+    omega (arith, size (start r), start r .pre .0, head r .write-head .kept)
 
 returns : tie.Need-returns
-returns c = let s = c .before .before .before .before .before .before .before .before .before .before .before .before .before .before .before .before .before in
-    (omega (arith, sizes (case s) (s .pre .1), c .before .before .before .before .before .rows-end .ensures, c .trial-size .ensures), fields-written (case s) (fine s) _ (now (s .args .out)) _ _ _ (c .before .before .before .before .before .rows-end .ensures) (c .before .before .before .before .before .before .before .before .before .before .before .before .write-head .ensures) (c .before .before .before .before .before .before .before .before .write-rows .ensures) (c .before .before .before .write-tail .ensures))
+returns c =
+    let e = c .before .before in
+    let z = e .before .before in
+    let r = tail z in
+    let s = start r in (
+      omega (arith, length-encode (case s) (fine s), r .rows-end .ensures, z .trial-size .ensures),
+      fields-written (case s) (fine s) _ _ (now (s .args .out)) _ _ _ _ (r .rows-end .ensures) (omega (arith, z .trial-size .ensures))
+          (head r .write-head .ensures) (rows r .write-rows .ensures) (trial z .write-trial .ensures) (e .write-end .ensures),
+    )
 
 pub write-fields-spec : {M : Type 1} → statement M
 write-fields-spec =
     tie.close
     (tie.spec
-    write-head-requires
-    sub-write-rows
-    part-write-rows-start
-    part-write-rows-end
+    (λ c κs. let s = c .before .before .before .before in omega (arith, fine s, s .pre .0))
+    (λ c. search needs)
+    (λ c. search needs)
+    (λ c. search needs)
     write-rows-requires
-    rows-end-requires
-    sub-write-tail
-    part-write-tail-start
-    part-write-tail-end
-    write-tail-requires
-    trial-size-requires
-    add-result
-    add-result-2
-    same-length
+    (λ c κs. fine (c .before .before .before .before .before .before .before .before .before .before .before) .small)
+    (λ r. omega (arith, size (start r)))
+    (λ r. omega (arith, size (start r)))
+    (λ c. search needs)
+    write-trial-requires
+    (λ c κs. fine (c .before .before .before .before .before .before .before .before .before .before .before .before .before .before .before .before) .small)
+    (λ z. omega (arith, size (start (tail z))))
+    (λ z. omega (arith, size (start (tail z))))
+    (λ z. omega (arith, size (start (tail z))))
+    (λ c. search needs)
+    write-end-requires
+    (λ c. omega (arith, size (start (tail (c .before .before .before .before)))))
+    (λ c. search needs)
     returns)

@@ -1,79 +1,40 @@
 -- `decimal::write_bytes` meets its contract. The loop's invariant: the first i bytes of the word are written.
 -- Assumes nothing.
-use mathlib.Core.Path.{_≡_, refl}
-use mathlib.Core.List.{List}
-use Prim.Native.Nat.{ℕ, _+_, _-_, _≤_, _<_}
-use native.Mathlib.Numerals.{add-one}
+use mathlib.Core.Path.{_≡_, refl, _∙_}
+use mathlib.Core.List.{List, [], _∷_}
+use Prim.Native.Nat.{ℕ, zero, suc, _-_, _≤_}
 use native.Mathlib.Omega.{arith}
-use lib.ListN.{length, take, getD, set, length-set}
+use lib.ListN.{length, take, getD}
 use lib.Seq.{take-suc, take-all}
-use Rattle.decimal.specs.Buffer.{Wrote}
-use Rattle.decimal.specs.BufferLaws.{wrote-none, wrote-byte, wrote-then}
+use Rattle.buffer.specs.Buffer.{run}
+use Rattle.buffer.specs.Laws.{set-onto-at}
+use Rattle.buffer.specs.RunLaws.{Running, run-begun, run-next, run-turn, run-ended}
 use Rattle.decimal.proofs.write_bytes.Statement.{statement}
 use Rattle.decimal.proofs.write_bytes.Tie as tie
 
-record Copied (word : List ℕ) (at : ℕ) (out₀ out : List ℕ) (i p : ℕ) : Type 0 where
-  room : at + length word ≤ length out₀
-  count : i ≤ length word
-  place : p ≡ at + i
-  same : length out ≡ length out₀
-  wrote : Wrote (take i word) at out₀ p out
-
-module _ {word out₀ out : List ℕ} {at i p : ℕ} (c : Copied word at out₀ out i p) where
-  turn : i < length word → Copied word at out₀ (set out p (getD word i 0)) (i + 1) (p + 1)
-  turn h =
-      record {
-        room = c .room;
-        count = omega arith;
-        place = omega arith;
-        same = simp length-set (c .same);
-        wrote =
-            rw (add-one i, take-suc word i 0 h)
-            (wrote-then (omega arith) (c .wrote) (wrote-byte p (getD word i 0) out (omega arith)));
-      }
-
-  ended : length word ≤ i → Wrote word at out₀ p out
-  ended h = rw (take-all i word h) at (c .wrote)
+take-run : (l : List ℕ) (i : ℕ) → i ≤ length l → run i (λ j. getD l j 0 ∷ []) ≡ take i l
+unfolding run
+take-run l zero h = refl
+take-run l (suc i) h = rw (take-suc l i 0 h, take-run l i (omega arith))
 
 abbrev Inv-loop : tie.InvT-loop
-Inv-loop word at out₀ i₀ p₀ out i p = Copied word at out₀ out i p
+Inv-loop word at out₀ i₀ p₀ out i p = Running 1 (λ j. getD word j 0 ∷ []) (length word) at out₀ out i p
 
 abbrev μ-loop : tie.MeasureT-loop
 μ-loop word at out₀ i₀ p₀ out i p = length word - i
 
-loop-holds : tie.Need-loop-holds Inv-loop μ-loop
-loop-holds c =
-    record {
-      room = c .pre .room;
-      count = omega arith;
-      place = omega arith;
-      same = refl;
-      wrote = wrote-none _;
-    }
-
-shared-slice-read-out : tie.Need-shared-slice-read-out Inv-loop μ-loop
-shared-slice-read-out c = omega arith
-
-slice-write-out : tie.Need-slice-write-out Inv-loop μ-loop
-slice-write-out c = omega arith
-
-add-i : tie.Need-add-i Inv-loop μ-loop
-add-i c = omega arith
-
-add-p : tie.Need-add-p Inv-loop μ-loop
-add-p c = omega arith
-
-loop-less : tie.Need-loop-less Inv-loop μ-loop
-loop-less c = omega arith
-
 loop-again : tie.Need-loop-again Inv-loop μ-loop
-loop-again c = turn (c .before .before .loop .inv) (c .before .loop-test .taken)
-
-same-length : tie.Need-same-length Inv-loop μ-loop
-same-length c = omega arith
+loop-again c =
+    let l = c .before .before .loop in
+    let n = run-next (l .inv) (c .before .loop-test .taken) in
+    run-turn (l .inv) (c .before .loop-test .taken) (omega arith) refl (set-onto-at (l .p) _ (l .out) (omega arith))
 
 returns : tie.Need-returns Inv-loop μ-loop
-returns c = ended (c .before .loop .inv) (c .loop-test .left)
+returns c =
+    let e = run-ended (c .before .loop .inv) (c .loop-test .left) in
+    let w = c .before .before .args .word .now in
+    let q : run (length w) (λ j. getD w j 0 ∷ []) ≡ w = take-run w (length w) (omega arith) ∙ take-all (length w) w (omega arith) in
+    record { place = rw q at (e .place); bytes = rw q at (e .is) }
 
 pub write-bytes-spec : {M : Type 1} → statement M
 write-bytes-spec =
@@ -81,12 +42,12 @@ write-bytes-spec =
     (tie.spec
     Inv-loop
     μ-loop
-    loop-holds
-    shared-slice-read-out
-    slice-write-out
-    add-i
-    add-p
-    loop-less
+    (λ c. run-begun (omega (arith, c .pre .room)))
+    (λ c. omega arith)
+    (λ c. omega arith)
+    (λ c. omega arith)
+    (λ c. omega arith)
+    (λ c. omega arith)
     loop-again
-    same-length
+    (λ c. omega arith)
     returns)

@@ -43,12 +43,6 @@ module _ (c : tie.After-write-minus) where
   left : let p = c .before .before in Room (digits (p .before .magnitude .result / p .power-of-ten .result) ++ fraction (p .before .before .before .args .e) (p .before .magnitude .result % p .power-of-ten .result)) (c .write-minus .result) (c .write-minus .last .1 .1 .0)
   left = room-next (room (c .before .before)) sign
 
-magnitude-requires : tie.Need-magnitude-requires
-magnitude-requires c κs = search needs
-
-power-of-ten-requires : tie.Need-power-of-ten-requires
-power-of-ten-requires c κs = search needs
-
 write-minus-requires : tie.Need-write-minus-requires
 write-minus-requires c κs =
     rw (toZ-ofZ {w = w64} (c .before .before .before .before .fits .x)) (room-front _ (room (c .before)))
@@ -82,8 +76,9 @@ pub write-fixed-point-spec : {M : Type 1} → statement M
 write-fixed-point-spec =
     tie.close
     (tie.spec
-    magnitude-requires
-    power-of-ten-requires
+    (λ c κs. search needs)
+    (λ c κs. search needs)
+    (λ c. search needs)
     write-minus-requires
     div-write-unsigned
     write-unsigned-requires

@@ -11,10 +11,9 @@ use mir.Syntax.{w64}
 use mir.Val.{SFits, toZ, ofZ}
 use mir.Facts.{toZ-ofZ}
 use Rattle.integers.specs.Size.{sfits-size}
+use Rattle.integers.specs.Tables.{fill, fill-none, fill-next, fill-left}
 use Rattle.rounding.specs.Round.{rnd}
-use Rattle.elimination.specs.Matrix.{fill}
 use Rattle.elimination.specs.Steps.{multiplier, reduced, eliminated-row}
-use Rattle.elimination.specs.Laws.{fill-none, fill-next, fill-left}
 use Rattle.elimination.specs.Bounds.{top-le, row-le, dividing, multiplier-le, product-le, loss-le, reduced-le}
 use Rattle.elimination.proofs.eliminate_row.Statement.{statement}
 use Rattle.elimination.proofs.eliminate_row.Tie as tie

@@ -6,17 +6,16 @@ use Prim.Native.Nat.{ℕ, _+_, _*_, _-_, _^_, _<_, _≤_}
 use native.Mathlib.Nat.{mul-le-mul}
 use native.Mathlib.Omega.{arith}
 use lib.ListN.{getD, set}
-use lib.IntN.{ℤ, pos, natAbs, _*ℤ_}
+use lib.IntN.{ℤ, pos, _*ℤ_}
 use mir.Syntax.{w16}
 use mir.Val.{SFits}
 use mir.Facts.{toZ-ofZ}
-use Rattle.integers.specs.Size.{at-most, bounds, natAbs-*ℤ, size-sfits, sfits-by}
+use Rattle.integers.specs.Size.{at-most, bounds, product-ok, size-sfits, sfits-by}
 use Rattle.integers.specs.Signed.{wide-fits, wide-is}
-use Rattle.elimination.specs.Matrix.{fill, Within}
+use Rattle.integers.specs.Tables.{fill, fill-none, fill-next, Within, zeros-within, within-set}
 use Rattle.elimination.specs.Steps.{scaled, working-row}
 use Rattle.elimination.specs.Conditions.{bound}
-use Rattle.elimination.specs.Laws.{fill-none, fill-next, all-set}
-use Rattle.elimination.specs.Start.{zero-row, zero-row-in}
+use Rattle.elimination.specs.Start.{zero-row}
 use Rattle.elimination.proofs.fill_row.Statement.{statement}
 use Rattle.elimination.proofs.fill_row.Tie as tie
 
@@ -26,26 +25,16 @@ Inv-loop n coefficients i row₀ j₀ row j = (j ≤ n) × Within (bound 0) row 
 abbrev μ-loop : tie.MeasureT-loop
 μ-loop n coefficients i row₀ j₀ row j = n - j
 
--- the index of a coefficient
-place : (n i j : ℕ) → n ≤ 8 → i < n → j < n → i * n + j < 64
-place n i j h p q =
-    let l : i ≤ 7 = omega arith in
-    omega (arith, mul-le-mul l h)
-
--- what a coefficient in its range gives
-module _ (z : ℤ) (f : SFits w16 z) where
-  size : natAbs (pos 256 *ℤ z) ≤ bound 0
-  size = omega (arith, natAbs-*ℤ (pos 256) z, size-sfits f)
-
 loop-holds : tie.Need-loop-holds Inv-loop μ-loop
 loop-holds c = (
   omega arith,
-  rw (c .pre .2) zero-row-in,
+  rw (c .pre .2) (zeros-within 8),
   c .pre .2 ∙ sym (fill-none (scaled (c .args .n) (c .args .coefficients .now) (c .args .i)) 0 0 zero-row (omega arith)),
 )
 
+-- the index of a coefficient
 in-turn : (c : tie.In-loop Inv-loop μ-loop) → c .before .before .args .i * c .before .before .args .n + c .before .loop .j < 64
-in-turn c = let s = c .before .before .args in place (s .n) (s .i) (c .before .loop .j) (omega arith) (omega arith) (omega arith)
+in-turn c = let s = c .before .before in omega (arith, mul-le-mul {n₁ = s .args .i} {n₂ = 7} (omega arith) (s .pre .0))
 
 mul-row : tie.Need-mul-row Inv-loop μ-loop
 mul-row c = omega (arith, in-turn c)
@@ -97,7 +86,7 @@ loop-again c =
     let f = range c in
     rw (toZ-ofZ (mul-row-3 c), wide-is w16 tt z f) (
       omega arith,
-      all-set (λ (x : ℤ). natAbs x ≤ bound 0) (pos 0) (d .loop .row) (d .loop .j) (pos 256 *ℤ z) (size z f) (d .loop .inv .1),
+      within-set (d .loop .row) (d .loop .j) (pos 256 *ℤ z) (product-ok (pos 256) z 256 (2 ^ 15) (omega arith) (size-sfits f)) (d .loop .inv .1),
       ap (λ (l : List ℤ). set l (d .loop .j) (pos 256 *ℤ z)) (d .loop .inv .2)
           ∙ fill-next (scaled (s .n) (s .coefficients .now) (s .i)) 0 (d .loop .j) zero-row (omega arith),
     )

@@ -6,11 +6,10 @@ use Prim.Native.Nat.{ℕ, _-_, _≤_}
 use native.Mathlib.Omega.{arith}
 use lib.ListN.{set, getD-replicate}
 use lib.IntN.{ℤ}
-use Rattle.elimination.specs.Matrix.{fill, Within, AllWithin}
+use Rattle.integers.specs.Tables.{all-set-at, fill, fill-none, fill-next, fill-left, Within, AllWithin, all-zeros-within}
 use Rattle.elimination.specs.Steps.{working-row, working}
 use Rattle.elimination.specs.Conditions.{bound}
-use Rattle.elimination.specs.Laws.{fill-none, fill-next, fill-left, all-set}
-use Rattle.elimination.specs.Start.{zero-row, zero-rows, zeros-in}
+use Rattle.elimination.specs.Start.{zero-row, zero-rows}
 use Rattle.elimination.proofs.fill_rows.Statement.{statement}
 use Rattle.elimination.proofs.fill_rows.Tie as tie
 
@@ -23,7 +22,7 @@ abbrev μ-loop : tie.MeasureT-loop
 loop-holds : tie.Need-loop-holds Inv-loop μ-loop
 loop-holds c = (
   omega arith,
-  rw (c .pre .1) zeros-in,
+  rw (c .pre .1) (all-zeros-within 8 8),
   c .pre .1 ∙ sym (fill-none (working-row (c .args .n) (c .args .coefficients .now)) 0 0 zero-rows (omega arith)),
 )
 
@@ -56,7 +55,7 @@ loop-again c =
     let s = d .before .args in
     let i = d .loop .i in (
       omega arith,
-      all-set (Within (bound 0)) [] (d .loop .w) i _ (c .fill-row .ensures .within) (d .loop .inv .1),
+      all-set-at (λ _. Within (bound 0)) [] (d .loop .w) i _ (c .fill-row .ensures .within) (d .loop .inv .1),
       rw (c .fill-row .ensures .is)
           (ap (λ (l : List (List ℤ)). set l i (working-row (s .n) (s .coefficients .now) i)) (d .loop .inv .2)
           ∙ fill-next (working-row (s .n) (s .coefficients .now)) 0 i zero-rows (omega arith)),

@@ -6,10 +6,9 @@ use Prim.Native.Nat.{ℕ, _+_, _-_, _<_, _≤_}
 use native.Mathlib.Omega.{arith}
 use lib.ListN.{getD, set}
 use lib.IntN.{ℤ}
-use Rattle.elimination.specs.Matrix.{fill}
+use Rattle.integers.specs.Tables.{fill, fill-none, fill-next, fill-left}
 use Rattle.elimination.specs.Steps.{row-below, eliminated-below}
 use Rattle.elimination.specs.Conditions.{Pivoted}
-use Rattle.elimination.specs.Laws.{fill-none, fill-next, fill-left}
 use Rattle.elimination.specs.Bounds.{ready}
 use Rattle.elimination.proofs.step.Statement.{statement}
 use Rattle.elimination.proofs.step.Tie as tie

@@ -2,15 +2,14 @@
 -- Assumes nothing.
 use Prim.Native.Nat.{_-_}
 use native.Mathlib.Omega.{arith}
-use mathlib.Core.Path.{sym, _∙_}
 use borrow.Author.Tests.{not-true, not-false}
-use lib.IntN.{pos}
+use lib.IntN.{ℤ, pos}
 use denote.Ref.{now}
 use lib.ListN.{length, getD}
 use mir.Syntax.{w16}
-use Rattle.integers.specs.Signed.{wide-fits, wide-is}
+use Rattle.integers.specs.Signed.{wide-fits}
 use Rattle.figures.specs.Figures.{within}
-use Rattle.figures.specs.LoopLaws.{Testing, test-begun, test-stopped, test-turn, test-ended}
+use Rattle.figures.specs.LoopLaws.{tested, Testing, test-begun, test-stopped, test-turn, test-ended}
 use Rattle.figures.proofs.all_i16.Statement.{statement}
 use Rattle.figures.proofs.all_i16.Tie as tie
 
@@ -20,11 +19,15 @@ Inv-loop a limit i₀ i = Testing (within limit) a i
 abbrev μ-loop : tie.MeasureT-loop
 μ-loop a limit i₀ i = length a - i
 
+-- the figure that is tested
+abbrev figure : tie.After-within-arg Inv-loop μ-loop → ℤ
+figure c = getD (now (c .before .before .before .args .a)) (c .before .before .loop .i) (pos 0)
+
 returns : tie.Need-returns Inv-loop μ-loop
-returns c = test-stopped (pos 0) (c .before .before .before .before .loop .inv) (c .before .before .before .loop-test .taken) (sym (rw (wide-is w16 tt _ (record { sfits = c .before .before .within-arg .given })) at (c .before .within .ensures)) ∙ not-true _ (c .if1 .taken))
+returns c = test-stopped (pos 0) (c .before .before .before .before .loop .inv) (c .before .before .before .loop-test .taken) (tested w16 tt (figure (c .before .before)) (c .before .before .within-arg .given) _ (c .before .within .ensures) (not-true _ (c .if1 .taken)))
 
 loop-again : tie.Need-loop-again Inv-loop μ-loop
-loop-again c = test-turn (pos 0) (c .before .before .before .before .loop .inv) (c .before .before .before .loop-test .taken) (sym (rw (wide-is w16 tt _ (record { sfits = c .before .before .within-arg .given })) at (c .before .within .ensures)) ∙ not-false _ (c .if1 .left))
+loop-again c = test-turn (pos 0) (c .before .before .before .before .loop .inv) (c .before .before .before .loop-test .taken) (tested w16 tt (figure (c .before .before)) (c .before .before .within-arg .given) _ (c .before .within .ensures) (not-false _ (c .if1 .left)))
 
 pub all-i16-spec : {M : Type 1} → statement M
 all-i16-spec =
@@ -35,7 +38,7 @@ all-i16-spec =
     (λ c. test-begun)
     (λ c. omega arith)
     (λ c. omega arith)
-    (λ c. wide-fits w16 tt (getD (now (c .before .before .before .args .a)) (c .before .before .loop .i) (pos 0)) (record { sfits = c .within-arg .given }))
+    (λ c. wide-fits w16 tt (figure c) (record { sfits = c .within-arg .given }))
     (λ c κs. tt)
     returns
     (λ c. omega arith)

@@ -6,12 +6,12 @@ use borrow.Author.Needs.{needs}
 use borrow.Author.Tests.{le-leb, lt-leb}
 use lib.ListN.{length, length-set}
 use Rattle.figures.specs.Figures.{u32, upTo}
-use Rattle.figures.specs.LoopLaws.{Reading, read-begun, read-next, read-stopped, read-turn, read-ended}
+use Rattle.figures.specs.LoopLaws.{ReadingFigures, read-begun, read-next, read-stopped, read-turn, read-ended}
 use Rattle.figures.proofs.read_u32s.Statement.{statement}
 use Rattle.figures.proofs.read_u32s.Tie as tie
 
 abbrev Inv-loop : tie.InvT-loop
-Inv-loop s at limit out₀ i₀ p₀ out i p = Reading u32 (upTo limit) s at out₀ out i p
+Inv-loop s at limit out₀ i₀ p₀ out i p = ReadingFigures u32 (upTo limit) s at out₀ out i p
 
 abbrev μ-loop : tie.MeasureT-loop
 μ-loop s at limit out₀ i₀ p₀ out i p = length out - i
@@ -33,7 +33,7 @@ read-u32s-spec =
     Inv-loop
     μ-loop
     (λ c. read-begun (omega arith))
-    (λ c κs. read-next (c .before .loop .inv) (c .loop-test .taken))
+    (λ c κs. let n = read-next (c .before .loop .inv) (c .loop-test .taken) in omega arith)
     (λ c. search needs)
     (λ c. omega arith)
     returns

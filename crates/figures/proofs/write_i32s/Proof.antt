@@ -6,24 +6,26 @@ use lib.IntN.{pos}
 use lib.ListN.{length}
 use mir.Syntax.{w32}
 use mir.Facts.{toZ-ofZ}
+use Rattle.bigendian.specs.NumberLaws.{length-bytes}
+use Rattle.buffer.specs.RunLaws.{run-begun, run-next, run-turn-lent}
 use Rattle.figures.specs.Figures.{i32}
-use Rattle.figures.specs.LoopLaws.{Writing, write-begun, write-next, write-turn, write-ended}
+use Rattle.figures.specs.LoopLaws.{Writing, write-ended}
 use Rattle.figures.proofs.write_i32s.Statement.{statement}
 use Rattle.figures.proofs.write_i32s.Tie as tie
 
 abbrev Inv-loop : tie.InvT-loop
-Inv-loop out₀ a i₀ p₀ out i p = Writing i32 a out₀ out i p
+Inv-loop out₀ a i₀ p₀ out i p = Writing i32 (pos 0) a out₀ out i p
 
 abbrev μ-loop : tie.MeasureT-loop
 μ-loop out₀ a i₀ p₀ out i p = length a - i
 
 add-p : tie.Need-add-p Inv-loop μ-loop
-add-p c = let n = write-next (c .before .before .before .before .before .before .loop .inv) (c .before .before .before .before .before .loop-test .taken) in
+add-p c = let n = run-next (c .before .before .before .before .before .before .loop .inv) (c .before .before .before .before .before .loop-test .taken) in
     omega (arith, c .before .before .before .before .before .before .before .before .good, c .before .before .before .before .before .before .loop .inv .same)
 
 loop-again : tie.Need-loop-again Inv-loop μ-loop
 loop-again c = let e = rw (toZ-ofZ {w = w32} (record { sfits = c .before .before .before .write-i32-arg2 .given })) at (c .before .before .write-i32 .ensures) in
-    write-turn (pos 0) (c .before .before .before .before .before .before .loop .inv) (c .before .before .before .before .before .loop-test .taken) e
+    run-turn-lent (c .before .before .before .before .before .before .loop .inv) (c .before .before .before .before .before .loop-test .taken) (length-bytes 4 _) e
 
 pub write-i32s-spec : {M : Type 1} → statement M
 write-i32s-spec =
@@ -31,16 +33,16 @@ write-i32s-spec =
     (tie.spec
     Inv-loop
     μ-loop
-    (λ c. write-begun (omega arith))
-    (λ c. let n = write-next (c .before .loop .inv) (c .loop-test .taken) in omega arith)
-    (λ c. let n = write-next (c .before .loop .inv) (c .loop-test .taken) in omega arith)
+    (λ c. run-begun (omega arith))
+    (λ c. let n = run-next (c .before .loop .inv) (c .loop-test .taken) in omega arith)
+    (λ c. let n = run-next (c .before .loop .inv) (c .loop-test .taken) in omega arith)
     (λ c. omega arith)
     (λ c. omega arith)
     (λ c. omega arith)
-    (λ c κs. let n = write-next (c .before .before .before .loop .inv) (c .before .before .loop-test .taken) in omega arith)
+    (λ c κs. let n = run-next (c .before .before .before .loop .inv) (c .before .before .loop-test .taken) in omega arith)
     (λ c. omega arith)
     add-p
     (λ c. omega arith)
     loop-again
     (λ c. omega arith)
-    (λ c. write-ended (c .before .loop .inv) (c .loop-test .left)))
+    (λ c. write-ended _ (pos 0) _ (c .before .loop .inv) (c .loop-test .left)))

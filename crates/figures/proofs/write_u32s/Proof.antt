@@ -3,23 +3,25 @@
 use Prim.Native.Nat.{_-_}
 use native.Mathlib.Omega.{arith}
 use lib.ListN.{length}
+use Rattle.bigendian.specs.NumberLaws.{length-bytes}
+use Rattle.buffer.specs.RunLaws.{run-begun, run-next, run-turn-lent}
 use Rattle.figures.specs.Figures.{u32}
-use Rattle.figures.specs.LoopLaws.{Writing, write-begun, write-next, write-turn, write-ended}
+use Rattle.figures.specs.LoopLaws.{Writing, write-ended}
 use Rattle.figures.proofs.write_u32s.Statement.{statement}
 use Rattle.figures.proofs.write_u32s.Tie as tie
 
 abbrev Inv-loop : tie.InvT-loop
-Inv-loop out₀ a i₀ p₀ out i p = Writing u32 a out₀ out i p
+Inv-loop out₀ a i₀ p₀ out i p = Writing u32 0 a out₀ out i p
 
 abbrev μ-loop : tie.MeasureT-loop
 μ-loop out₀ a i₀ p₀ out i p = length a - i
 
 add-p : tie.Need-add-p Inv-loop μ-loop
-add-p c = let n = write-next (c .before .before .before .before .before .before .loop .inv) (c .before .before .before .before .before .loop-test .taken) in
+add-p c = let n = run-next (c .before .before .before .before .before .before .loop .inv) (c .before .before .before .before .before .loop-test .taken) in
     omega (arith, c .before .before .before .before .before .before .before .before .before .good, c .before .before .before .before .before .before .loop .inv .same)
 
 loop-again : tie.Need-loop-again Inv-loop μ-loop
-loop-again c = write-turn 0 (c .before .before .before .before .before .before .loop .inv) (c .before .before .before .before .before .loop-test .taken) (c .before .before .write-u32 .ensures)
+loop-again c = run-turn-lent (c .before .before .before .before .before .before .loop .inv) (c .before .before .before .before .before .loop-test .taken) (length-bytes 4 _) (c .before .before .write-u32 .ensures)
 
 pub write-u32s-spec : {M : Type 1} → statement M
 write-u32s-spec =
@@ -27,16 +29,16 @@ write-u32s-spec =
     (tie.spec
     Inv-loop
     μ-loop
-    (λ c. write-begun (omega arith))
-    (λ c. let n = write-next (c .before .loop .inv) (c .loop-test .taken) in omega arith)
-    (λ c. let n = write-next (c .before .loop .inv) (c .loop-test .taken) in omega arith)
+    (λ c. run-begun (omega arith))
+    (λ c. let n = run-next (c .before .loop .inv) (c .loop-test .taken) in omega arith)
+    (λ c. let n = run-next (c .before .loop .inv) (c .loop-test .taken) in omega arith)
     (λ c. omega arith)
     (λ c. omega arith)
     (λ c. omega arith)
-    (λ c κs. let n = write-next (c .before .before .before .loop .inv) (c .before .before .loop-test .taken) in omega arith)
+    (λ c κs. let n = run-next (c .before .before .before .loop .inv) (c .before .before .loop-test .taken) in omega arith)
     (λ c. omega arith)
     add-p
     (λ c. omega arith)
     loop-again
     (λ c. omega arith)
-    (λ c. write-ended (c .before .loop .inv) (c .loop-test .left)))
+    (λ c. write-ended _ 0 _ (c .before .loop .inv) (c .loop-test .left)))

@@ -1,64 +1,42 @@
 -- `recordfile::write_answer` meets its contract: the header, and the figures behind it. Assumes nothing.
-use mathlib.Core.Path.{ap, _∙_}
-use Prim.Native.Nat.{_*_}
+use mathlib.Core.Path.{sym, ap, _∙_}
+use native.Mathlib.Omega.{arith}
 use denote.Ref.{now}
-use lib.ListN.{getD}
+use lib.ListN.{take}
+use lib.Seq.{length-take-le}
 use lib.IntN.{pos}
-use mir.Syntax.{w32}
-use mir.Val.{ofZ}
-use Rattle.bigendian.specs.Number.{bytes}
-use Rattle.buffer.specs.Buffer.{onto}
-use Rattle.bigendian.specs.NumberLaws.{length-bytes}
-use Rattle.buffer.specs.Laws.{then}
-use Rattle.fields.specs.Field.{header}
-use Rattle.fields.specs.FieldLaws.{length-header, field-is-header}
-use Rattle.recordfile.specs.Layout.{run}
-use Rattle.recordfile.specs.Laws.{length-run}
 use borrow.Author.Needs.{needs}
+use Rattle.buffer.specs.Buffer.{onto}
+use Rattle.figures.specs.Figures.{i32, spread}
+use Rattle.figures.specs.FigureLaws.{length-spread}
+use Rattle.figures.specs.LoopLaws.{spread-run}
+use Rattle.fields.specs.Field.{field}
+use Rattle.fields.specs.FieldLaws.{field-written}
+use Rattle.recordfile.specs.Layout.{answerTag}
 use Rattle.recordfile.proofs.write_answer.Statement.{statement}
 use Rattle.recordfile.proofs.write_answer.Tie as tie
 
-mul-write-header : tie.Need-mul-write-header
-mul-write-header c = search needs
-
-cast-write-header : tie.Need-cast-write-header
-cast-write-header c = search needs
-
-write-header-requires : tie.Need-write-header-requires
-write-header-requires c κs = search needs
-
-sub-write-figures : tie.Need-sub-write-figures
-sub-write-figures c = search needs
-
-part-write-figures-start : tie.Need-part-write-figures-start
-part-write-figures-start c = search needs
-
-part-write-figures-end : tie.Need-part-write-figures-end
-part-write-figures-end c = search needs
-
-write-figures-requires : tie.Need-write-figures-requires
-write-figures-requires c κs = search needs
-
-same-length : tie.Need-same-length
-same-length c = search needs
-
 returns : tie.Need-returns
 returns c =
-    let a = c .before .before .before .before .before .before .before .before .before .args in
-    let p = run (a .n) (λ j. bytes 4 (ofZ w32 (getD (a .answer .now) j (pos 0)))) in
-    then (now (a .out)) _ (header 17 (4 * a .n)) p 3 _ (c .before .before .before .before .before .before .write-header .ensures) (length-header 17 (4 * a .n)) (c .before .before .write-figures .ensures)
-    ∙ ap (λ b. onto b (now (a .out))) (field-is-header 17 p (4 * a .n) (length-run 4 _ (λ j. length-bytes 4 (ofZ w32 (getD (a .answer .now) j (pos 0)))) (a .n)))
+    let s = c .before .before .before .before .before .before .before .before .before .before .before in
+    let Y = now (s .args .answer) in
+    let n = s .args .n in
+    let k = length-take-le n Y (s .pre .1 .0) in
+    let l = length-spread i32 (take n Y) in
+    field-written answerTag _ (spread i32 (take n Y)) (now (s .args .out)) _ (omega (arith, c .before .before .before .before .before .before .before .before .answer-length .ensures)) (c .before .before .before .before .before .before .before .write-header .ensures) (c .before .before .write-i32s .ensures)
+    ∙ ap (λ v. onto (field answerTag v) (now (s .args .out))) (spread-run i32 (pos 0) Y n (s .pre .1 .0))
 
 pub write-answer-spec : {M : Type 1} → statement M
 write-answer-spec =
     tie.close
     (tie.spec
-    mul-write-header
-    cast-write-header
-    write-header-requires
-    sub-write-figures
-    part-write-figures-start
-    part-write-figures-end
-    write-figures-requires
-    same-length
+    (λ c κs. search needs)
+    (λ c. search needs)
+    (λ c κs. search needs)
+    (λ c. search needs)
+    (λ c. search needs)
+    (λ c. search needs)
+    (λ c. sym (length-take-le _ _ (c .before .before .before .before .before .before .before .before .pre .1 .0)))
+    (λ c κs. let s = c .before .before .before .before .before .before .before .before in omega (arith, length-take-le (s .args .n) (now (s .args .answer)) (s .pre .1 .0)))
+    (λ c. search needs)
     returns)

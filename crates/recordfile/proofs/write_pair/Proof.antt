@@ -9,28 +9,6 @@ use Rattle.buffer.specs.Laws.{then}
 use borrow.Author.Needs.{needs}
 use Rattle.recordfile.proofs.write_pair.Statement.{statement}
 use Rattle.recordfile.proofs.write_pair.Tie as tie
-use Rattle.recordfile.proofs.write_pair.Reads as reads
-use Rattle.recordfile.proofs.write_pair.Lts as lts
-use Rattle.bigendian.proofs.write_i64.Reads as write-i64-reads
-use Rattle.bigendian.proofs.write_u64.Reads as write-u64-reads
-
-write-i64-requires : tie.Need-write-i64-requires
-write-i64-requires c κs = search needs
-
-sub-write-u64 : tie.Need-sub-write-u64
-sub-write-u64 c = search needs
-
-part-write-u64-start : tie.Need-part-write-u64-start
-part-write-u64-start c = search needs
-
-part-write-u64-end : tie.Need-part-write-u64-end
-part-write-u64-end c = search needs
-
-write-u64-requires : tie.Need-write-u64-requires
-write-u64-requires c κs = search needs
-
-same-length : tie.Need-same-length
-same-length c = search needs
 
 returns : tie.Need-returns
 returns c =
@@ -43,10 +21,10 @@ pub write-pair-spec : {M : Type 1} → statement M
 write-pair-spec =
     tie.close
     (tie.spec
-    write-i64-requires
-    sub-write-u64
-    part-write-u64-start
-    part-write-u64-end
-    write-u64-requires
-    same-length
+    (λ c κs. search needs)
+    (λ c. search needs)
+    (λ c. search needs)
+    (λ c. search needs)
+    (λ c κs. search needs)
+    (λ c. search needs)
     returns)

@@ -1,69 +1,37 @@
 -- `recordfile::write_record` meets its contract: the end field behind the four fields. Assumes nothing.
-use mathlib.Core.Path.{refl}
-use Prim.Native.Nat.{_+_, _*_}
+use mathlib.Core.Path.{sym, _∙_}
+use native.Mathlib.Omega.{arith}
 use denote.Ref.{now}
-use Rattle.bigendian.specs.Number.{bytes}
+use borrow.Author.Needs.{needs}
 use Rattle.buffer.specs.Laws.{then}
-use Rattle.fields.specs.Field.{header, field}
+use Rattle.fields.specs.Field.{endField}
 use Rattle.recordfile.specs.Layout.{judgedFields, recordOf}
 use Rattle.recordfile.specs.Laws.{length-judged}
-use borrow.Author.Needs.{needs}
 use Rattle.recordfile.proofs.write_record.Statement.{statement}
 use Rattle.recordfile.proofs.write_record.Tie as tie
 
-write-judged-requires : tie.Need-write-judged-requires
-write-judged-requires c κs = search needs
-
-mul-end : tie.Need-mul-end
-mul-end c = search needs
-
-add-end : tie.Need-add-end
-add-end c = search needs
-
-sub-write-header : tie.Need-sub-write-header
-sub-write-header c = search needs
-
-part-write-header-start : tie.Need-part-write-header-start
-part-write-header-start c = search needs
-
-part-write-header-end : tie.Need-part-write-header-end
-part-write-header-end c = search needs
-
-write-header-requires : tie.Need-write-header-requires
-write-header-requires c κs = search needs
-
-mul-result : tie.Need-mul-result
-mul-result c = search needs
-
-add-result : tie.Need-add-result
-add-result c = search needs
-
-same-length : tie.Need-same-length
-same-length c = search needs
-
 returns : tie.Need-returns
-unfolding recordOf field bytes
+unfolding recordOf
 returns c =
-    let g = c .before .before .before .before .before .before .before .before .before .args in
-    let F = judgedFields (g .n) (g .rounds) (g .answer .now) (g .judgement) in
+    let a = c .before .before .before .before .before .before .before .before .before .before .args in
+    let Y = now (a .answer) in
+    let e = c .before .before .before .before .end-at .ensures in
     record {
-      count = refl;
+      count = omega arith;
       buffer =
-          then (now (g .out)) _ F (header 255 0) (17 + 20 * g .n) _ (c .before .before .before .before .before .before .write-judged .ensures) (length-judged (g .n) (g .rounds) (g .answer .now) (g .judgement)) (c .before .before .write-header .ensures);
+          then (now (a .out)) _ (judgedFields (a .n) (a .rounds) Y (a .judgement)) endField _ _ (c .before .before .before .before .before .before .before .write-judged .ensures) (length-judged (a .n) (a .rounds) Y (a .judgement) ∙ sym e) (c .before .before .write-end .ensures);
     }
 
 pub write-record-spec : {M : Type 1} → statement M
 write-record-spec =
     tie.close
     (tie.spec
-    write-judged-requires
-    mul-end
-    add-end
-    sub-write-header
-    part-write-header-start
-    part-write-header-end
-    write-header-requires
-    mul-result
-    add-result
-    same-length
+    (λ c κs. search needs)
+    (λ c κs. search needs)
+    (λ c. search needs)
+    (λ c. search needs)
+    (λ c. search needs)
+    (λ c κs. search needs)
+    (λ c. search needs)
+    (λ c. search needs)
     returns)

@@ -12,24 +12,6 @@ use Rattle.recordfile.specs.Layout.{verdictTag}
 use Rattle.recordfile.proofs.write_verdict.Statement.{statement}
 use Rattle.recordfile.proofs.write_verdict.Tie as tie
 
-flag-requires : tie.Need-flag-requires
-flag-requires c κs = search needs
-
-write-header-requires : tie.Need-write-header-requires
-write-header-requires c κs = search needs
-
-slice-write-out : tie.Need-slice-write-out
-slice-write-out c = search needs
-
-slice-write-out-2 : tie.Need-slice-write-out-2
-slice-write-out-2 c = simp length-set (omega (arith, c .before .before .before .before .before .before .pre, c .before .before .write-header .kept))
-
-slice-write-out-3 : tie.Need-slice-write-out-3
-slice-write-out-3 c = simp length-set (omega (arith, c .before .before .before .before .before .before .pre, c .before .before .write-header .kept))
-
-same-length : tie.Need-same-length
-same-length c = simp length-set (omega (arith, c .before .before .write-header .kept))
-
 returns : tie.Need-returns
 returns c =
     let s = c .before .before .before .before .before .before in
@@ -41,4 +23,12 @@ returns c =
 
 pub write-verdict-spec : {M : Type 1} → statement M
 write-verdict-spec =
-    tie.close (tie.spec flag-requires write-header-requires slice-write-out slice-write-out-2 slice-write-out-3 same-length returns)
+    tie.close
+    (tie.spec
+    (λ c κs. search needs)
+    (λ c κs. search needs)
+    (λ c. search needs)
+    (λ c. simp length-set (omega (arith, c .before .before .before .before .before .before .pre, c .before .before .write-header .kept)))
+    (λ c. simp length-set (omega (arith, c .before .before .before .before .before .before .pre, c .before .before .write-header .kept)))
+    (λ c. simp length-set (omega (arith, c .before .before .write-header .kept)))
+    returns)

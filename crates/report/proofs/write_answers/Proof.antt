@@ -3,14 +3,14 @@
 use mathlib.Core.List.{List}
 use Prim.Native.Nat.{ℕ, _+_, _-_}
 use native.Mathlib.Omega.{arith}
-use denote.Ref.{now}
 use lib.ListN.{getD}
 use lib.IntN.{ℤ, pos}
 use mir.Syntax.{w32}
 use mir.Val.{SFits}
 use mir.Facts.{toZ-ofZ}
+use Rattle.buffer.specs.RunLaws.{Running, run-begun, run-next}
 use Rattle.report.specs.Text.{answer-line, answer-room}
-use Rattle.report.specs.Lines.{Writing, lines-begun, line-room, lines-turn, lines-ended}
+use Rattle.report.specs.Lines.{lines-turn, lines-ended}
 use Rattle.report.proofs.write_answers.Statement.{statement}
 use Rattle.report.proofs.write_answers.Tie as tie
 
@@ -18,7 +18,7 @@ abbrev line : ℕ → List ℤ → ℕ → List ℕ
 line e answer j = answer-line e (j + 1) (getD answer j (pos 0))
 
 abbrev Inv-loop : tie.InvT-loop
-Inv-loop n e answer at out₀ j₀ next₀ out j next = Writing (line e answer) answer-room n at out₀ j next out
+Inv-loop n e answer at out₀ j₀ next₀ out j next = Running answer-room (line e answer) n at out₀ out j next
 
 abbrev μ-loop : tie.MeasureT-loop
 μ-loop n e answer at out₀ j₀ next₀ out j next = n - j
@@ -34,41 +34,17 @@ module _ (c : tie.After-write-answer-line-arg Inv-loop μ-loop) where
   fits : SFits w32 (getD (start .args .answer .now) place (pos 0))
   fits = record { sfits = c .write-answer-line-arg .given }
 
-loop-holds : tie.Need-loop-holds Inv-loop μ-loop
-loop-holds c = lines-begun _ answer-room _ _ _ (c .before .pre .1 .1)
-
-add-write-answer-line : tie.Need-add-write-answer-line Inv-loop μ-loop
-add-write-answer-line c = omega arith
-
-mul-write-answer-line : tie.Need-mul-write-answer-line Inv-loop μ-loop
-mul-write-answer-line c = omega arith
-
-element-copy-out-write-answer-line : tie.Need-element-copy-out-write-answer-line Inv-loop μ-loop
-element-copy-out-write-answer-line c = omega arith
-
 write-answer-line-requires : tie.Need-write-answer-line-requires Inv-loop μ-loop
 write-answer-line-requires c κs =
     let a = c .before in
-    (start a .pre .1 .0, (omega arith, line-room _ answer-room _ _ _ (a .before .before .loop .inv) (a .before .loop-test .taken)))
-
-add-j : tie.Need-add-j Inv-loop μ-loop
-add-j c = omega arith
-
-loop-less : tie.Need-loop-less Inv-loop μ-loop
-loop-less c = omega arith
+    (start a .pre .1 .0, (omega arith, run-next (a .before .before .loop .inv) (a .before .loop-test .taken)))
 
 loop-again : tie.Need-loop-again Inv-loop μ-loop
 loop-again c =
     let a = c .before .before .before .before in
     let f = fits a in
-    lines-turn _ answer-room _ _ _ (a .before .before .loop .inv) (a .before .loop-test .taken)
+    lines-turn (a .before .before .loop .inv) (a .before .loop-test .taken)
     (simp toZ-ofZ at (c .before .before .write-answer-line .ensures))
-
-same-length : tie.Need-same-length Inv-loop μ-loop
-same-length c = omega arith
-
-returns : tie.Need-returns Inv-loop μ-loop
-returns c = lines-ended _ answer-room _ _ _ (c .before .loop .inv) (c .loop-test .left)
 
 pub write-answers-spec : {M : Type 1} → statement M
 write-answers-spec =
@@ -76,13 +52,13 @@ write-answers-spec =
     (tie.spec
     Inv-loop
     μ-loop
-    loop-holds
-    add-write-answer-line
-    mul-write-answer-line
-    element-copy-out-write-answer-line
+    (λ c. run-begun (c .before .pre .1 .1))
+    (λ c. omega arith)
+    (λ c. omega arith)
+    (λ c. omega arith)
     write-answer-line-requires
-    add-j
-    loop-less
+    (λ c. omega arith)
+    (λ c. omega arith)
     loop-again
-    same-length
-    returns)
+    (λ c. omega arith)
+    (λ c. lines-ended (c .before .loop .inv) (c .loop-test .left)))

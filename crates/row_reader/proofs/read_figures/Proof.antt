@@ -1,7 +1,6 @@
 -- `row_reader::read_figures` meets its contract: four runs of figures, one behind the other, are a row.
 -- Assumes nothing.
-use Prim.Native.Nat.{ℕ, _+_, _*_}
-use native.Mathlib.Omega.{arith}
+use Prim.Native.Nat.{ℕ, _+_}
 use mathlib.Core.Bool.{Bool, true, _&&_}
 use mathlib.Core.List.{List}
 use mathlib.Core.Path.{_≡_, refl, sym, _∙_}
@@ -10,25 +9,15 @@ use lib.Seq.{drop-drop}
 use lib.IntN.{ℤ}
 use denote.Ref.{now}
 use borrow.Author.Tests.{not-true, not-false}
-use Rattle.figures.specs.Figures.{Read, i16, u16, i32, u32, within, upTo, all, after}
+use Rattle.figures.specs.Figures.{Kind, u16, i32, u32, within, upTo, figures, all, Answered}
 use Rattle.figures.specs.LoopLaws.{no}
 use Rattle.casefile.specs.Case.{coefficientLimit, toleranceLimit, rightSideLimit, rightToleranceLimit}
-use Rattle.casefile.specs.Layout.{rowMade}
+use Rattle.casefile.specs.Layout.{Row, rowMade, tolerancesAt, rightSideAt, rightToleranceAt}
 use Rattle.casefile.specs.Decode.{rowOf, rowFine}
+use Rattle.casefile.specs.RowLaws.{at-right-side, at-right-tolerance}
 use borrow.Author.Needs.{needs}
 use Rattle.row_reader.proofs.read_figures.Statement.{statement}
 use Rattle.row_reader.proofs.read_figures.Tie as tie
-
--- the runs' places, seen from the row's value
-module _ (s : List ℕ) (at n : ℕ) where
-  behind-1 : drop (at + 2 * n) s ≡ after i16 n (drop at s)
-  behind-1 = sym (drop-drop (2 * n) at s)
-
-  behind-2 : drop (at + 2 * n + 2 * n) s ≡ after u16 n (after i16 n (drop at s))
-  behind-2 = sym (rw (drop-drop (2 * n) at s, drop-drop (2 * n) (at + 2 * n) s))
-
-  behind-3 : drop (at + 2 * n + 2 * n + 4) s ≡ after i32 1 (after u16 n (after i16 n (drop at s)))
-  behind-3 = sym (rw (drop-drop (2 * n) at s, drop-drop (2 * n) (at + 2 * n) s, drop-drop 4 (at + 2 * n + 2 * n) s))
 
 module _ (n : ℕ) (v : List ℕ) where
   fine-is : {b1 b2 b3 b4 : Bool}
@@ -48,51 +37,39 @@ module _ (n : ℕ) (v : List ℕ) where
       → rowMade a t b f ≡ rowOf n v
   made-is e1 e2 e3 e4 = rw (e1, e2, e3, e4)
 
--- what a run gives of the row: its test, and where that passed its figures
-Run : {X : Type 0} → (X → Bool) → List X → Bool → List X → Type 0
-Run f row r l = (r ≡ all f row) × (r ≡ true → l ≡ row)
+-- what a run of figures gives of the row
+abbrev Run : {X : Type 0} → (X → Bool) → List X → Bool → List X → Type 0
+Run f l r exit = Answered true (all f l) l r exit
 
-module _ (s : List ℕ) (at n : ℕ) where
-  run-1 : (a₀ a : List ℤ) (r : Bool) → length a₀ ≡ n → Read i16 (within coefficientLimit) (drop at s) a₀ r a
-      → Run (within coefficientLimit) (rowOf n (drop at s) .coefficients) r a
-  unfolding Run rowOf
-  run-1 a₀ a r e q = rw (← e) (q .test, q .made)
-
-  run-2 : (t₀ t : List ℕ) (r : Bool) → length t₀ ≡ n → Read u16 (upTo toleranceLimit) (drop (at + 2 * n) s) t₀ r t
-      → Run (upTo toleranceLimit) (rowOf n (drop at s) .tolerances) r t
-  unfolding Run rowOf
-  run-2 t₀ t r e q = (rw (e, behind-1 s at n) at (q .test), λ h. rw (e, behind-1 s at n) at (q .made h))
-
-  run-3 : (b₀ b : List ℤ) (r : Bool) → length b₀ ≡ 1 → Read i32 (within rightSideLimit) (drop (at + 2 * n + 2 * n) s) b₀ r b
-      → Run (within rightSideLimit) (rowOf n (drop at s) .right-side) r b
-  unfolding Run rowOf
-  run-3 b₀ b r e q = (rw (e, behind-2 s at n) at (q .test), λ h. rw (e, behind-2 s at n) at (q .made h))
-
-  run-4 : (f₀ f : List ℕ) (r : Bool) → length f₀ ≡ 1 → Read u32 (upTo rightToleranceLimit) (drop (at + 2 * n + 2 * n + 4) s) f₀ r f
-      → Run (upTo rightToleranceLimit) (rowOf n (drop at s) .right-tolerance) r f
-  unfolding Run rowOf
-  run-4 f₀ f r e q = (rw (e, behind-3 s at n) at (q .test), λ h. rw (e, behind-3 s at n) at (q .made h))
+-- read at a place behind the value's front
+run : {X : Type 0} (k : Kind X) (f : X → Bool) (s v : List ℕ) (at p q m n : ℕ) {exit : List X} {r : Bool} → p ≡ q → drop q (drop at s) ≡ v → m ≡ n
+    → Run f (figures k m (drop (at + p) s)) r exit → Run f (figures k n v) r exit
+run k f s v at p q m n e d g h = rw (e, ← (drop-drop q at s), d, g) at h
 
 -- ---- the four runs, each where it has been read
 
 module _ (c : tie.After-read-i16s) where
+  abbrev places : tie.After-right-tolerance-at
+  places = c .before .before
+
   abbrev start : tie.Start
-  start = c .before .before .before .before .before
+  start = places .before .before .before .before .before .before
 
-  abbrev s′ : List ℕ
-  s′ = now (start .args .s)
+  abbrev at : ℕ
+  at = start .args .at
 
-  abbrev at′ : ℕ
-  at′ = start .args .at
+  abbrev s : List ℕ
+  s = now (start .args .s)
 
-  abbrev value : List ℕ
-  value = drop at′ s′
+  abbrev n : ℕ
+  n = length (now (start .args .a))
 
-  abbrev n′ : ℕ
-  n′ = length (now (start .args .a))
+  abbrev row : Row
+  row = rowOf n (drop at s)
 
-  coefficients : Run (within coefficientLimit) (rowOf n′ value .coefficients) (c .read-i16s .result) (c .read-i16s .last .1 .1 .1 .0)
-  coefficients = run-1 s′ at′ _ _ _ _ refl (c .read-i16s .ensures)
+  coefficients : Run (within coefficientLimit) (row .coefficients) (c .read-i16s .result) (c .read-i16s .last .1 .1 .1 .0)
+  unfolding rowOf
+  coefficients = c .read-i16s .ensures
 
 module _ (c : tie.After-read-u16s) where
   abbrev first : tie.After-read-i16s
@@ -101,8 +78,10 @@ module _ (c : tie.After-read-u16s) where
   first-passed : first .read-i16s .result ≡ true
   first-passed = not-false _ (c .before .before .if1 .left)
 
-  tolerances : Run (upTo toleranceLimit) (rowOf (n′ first) (value first) .tolerances) (c .read-u16s .result) (c .read-u16s .last .1 .1 .1 .0)
-  tolerances = run-2 (s′ first) (at′ first) _ _ _ _ (start first .pre .lt) (c .read-u16s .ensures)
+  tolerances : Run (upTo toleranceLimit) (row first .tolerances) (c .read-u16s .result) (c .read-u16s .last .1 .1 .1 .0)
+  unfolding rowOf
+  tolerances =
+      run u16 _ (s first) _ (at first) _ (tolerancesAt (n first))  _ _ (places first .before .before .tolerances-at .ensures) refl (start first .pre .1 .lt) (c .read-u16s .ensures)
 
 module _ (c : tie.After-read-i32s) where
   abbrev second : tie.After-read-u16s
@@ -111,8 +90,11 @@ module _ (c : tie.After-read-i32s) where
   second-passed : second .read-u16s .result ≡ true
   second-passed = not-false _ (c .before .before .if2 .left)
 
-  right-side : Run (within rightSideLimit) (rowOf (n′ (first second)) (value (first second)) .right-side) (c .read-i32s .result) (c .read-i32s .last .1 .1 .1 .0)
-  right-side = run-3 (s′ (first second)) (at′ (first second)) _ _ _ _ (start (first second) .pre .lb) (c .read-i32s .ensures)
+  right-side : let w = first second in Run (within rightSideLimit) (row w .right-side) (c .read-i32s .result) (c .read-i32s .last .1 .1 .1 .0)
+  unfolding rowOf
+  right-side =
+      let w = first second in
+      run i32 _ (s w) _ (at w) _ (rightSideAt (n w))  _ _ (places w .before .right-side-at .ensures) (at-right-side (n w) _) (start w .pre .1 .lb) (c .read-i32s .ensures)
 
 module _ (c : tie.After-read-u32s) where
   abbrev third : tie.After-read-i32s
@@ -121,77 +103,75 @@ module _ (c : tie.After-read-u32s) where
   third-passed : third .read-i32s .result ≡ true
   third-passed = not-false _ (c .before .before .if3 .left)
 
-  abbrev begin : tie.After-read-i16s
-  begin = first (second third)
-
-  right-tolerance : Run (upTo rightToleranceLimit) (rowOf (n′ begin) (value begin) .right-tolerance) (c .read-u32s .result) (c .read-u32s .last .1 .1 .1 .0)
-  right-tolerance = run-4 (s′ begin) (at′ begin) _ _ _ _ (start begin .pre .lf) (c .read-u32s .ensures)
+  right-tolerance : let w = first (second third) in Run (upTo rightToleranceLimit) (row w .right-tolerance) (c .read-u32s .result) (c .read-u32s .last .1 .1 .1 .0)
+  unfolding rowOf
+  right-tolerance =
+      let w = first (second third) in
+      run u32 _ (s w) _ (at w) _ (rightToleranceAt (n w))  _ _ (places w .right-tolerance-at .ensures) (at-right-tolerance (n w) _) (start w .pre .1 .lf) (c .read-u32s .ensures)
 
 -- ---- the answers
 
 returns : tie.Need-returns
-unfolding Run
 returns c =
     let w = c .before .before in
-    record { fine = fine-is _ _ (sym (not-true _ (c .if1 .taken)) ∙ coefficients w .0) refl refl refl; made = λ e. no e }
+    record { status = fine-is _ _ (sym (not-true _ (c .if1 .taken)) ∙ coefficients w .status) refl refl refl; made = λ e. no e }
 
 returns-2 : tie.Need-returns-2
-unfolding Run
 returns-2 c =
     let w = c .before .before .before in
     record {
-      fine = fine-is _ _ (sym (first-passed w) ∙ coefficients (first w) .0) (sym (not-true _ (c .if2 .taken)) ∙ tolerances w .0) refl refl;
+      status = fine-is _ _ (sym (first-passed w) ∙ coefficients (first w) .status) (sym (not-true _ (c .if2 .taken)) ∙ tolerances w .status) refl refl;
       made = λ e. no e;
     }
 
 returns-3 : tie.Need-returns-3
-unfolding Run
 returns-3 c =
     let w = c .before .before in
     let v = second w in
     record {
-      fine =
-          fine-is _ _ (sym (first-passed v) ∙ coefficients (first v) .0) (sym (second-passed w) ∙ tolerances v .0)
-          (sym (not-true _ (c .if3 .taken)) ∙ right-side w .0) refl;
+      status =
+          fine-is _ _ (sym (first-passed v) ∙ coefficients (first v) .status) (sym (second-passed w) ∙ tolerances v .status)
+          (sym (not-true _ (c .if3 .taken)) ∙ right-side w .status) refl;
       made = λ e. no e;
     }
 
 returns-4 : tie.Need-returns-4
-unfolding Run
 returns-4 c =
     let w = c .before .before in
     let v = third w in
     let u = second v in
     record {
-      fine =
-          fine-is _ _ (sym (first-passed u) ∙ coefficients (first u) .0) (sym (second-passed v) ∙ tolerances u .0)
-          (sym (third-passed w) ∙ right-side v .0) (right-tolerance w .0);
+      status =
+          fine-is _ _ (sym (first-passed u) ∙ coefficients (first u) .status) (sym (second-passed v) ∙ tolerances u .status)
+          (sym (third-passed w) ∙ right-side v .status) (right-tolerance w .status);
       made = λ h.
-          made-is _ _ (coefficients (first u) .1 (first-passed u)) (tolerances u .1 (second-passed v)) (right-side v .1 (third-passed w)) (right-tolerance w .1 h);
+          made-is _ _ (coefficients (first u) .made (first-passed u)) (tolerances u .made (second-passed v)) (right-side v .made (third-passed w))
+          (right-tolerance w .made h);
     }
 
 pub read-figures-spec : {M : Type 1} → statement M
 read-figures-spec =
     tie.close
     (tie.spec
+    (λ c κs. search needs)
     (λ c. search needs)
-    (λ c. omega (arith, c .before .before .before .pre, c .before .before .before .good))
+    (λ c κs. search needs)
     (λ c. search needs)
-    (λ c. omega (arith, c .before .before .before .pre, c .before .before .before .good))
-    (λ c. omega (arith, c .before .before .before .pre, c .before .before .before .good))
-    (λ c κs. omega (arith, c .before .before .before .before .pre))
+    (λ c κs. search needs)
+    (λ c. search needs)
+    (λ c κs. search needs)
     (λ c. search needs)
     returns
-    (λ c κs. omega (arith, c .before .before .before .before .before .before .before .before .pre))
+    (λ c κs. search needs)
     (λ c. search needs)
     (λ c. search needs)
     returns-2
-    (λ c κs. omega (arith, c .before .before .before .before .before .before .before .before .before .before .before .before .before .pre))
+    (λ c κs. search needs)
     (λ c. search needs)
     (λ c. search needs)
     (λ c. search needs)
     returns-3
-    (λ c κs. omega (arith, c .before .before .before .before .before .before .before .before .before .before .before .before .before .before .before .before .before .pre))
+    (λ c κs. search needs)
     (λ c. search needs)
     (λ c. search needs)
     (λ c. search needs)

@@ -3,12 +3,13 @@
 use Prim.Native.Nat.{_-_}
 use native.Mathlib.Omega.{arith}
 use borrow.Author.Needs.{needs}
-use Rattle.row_reader.proofs.Rows.{Reading, Next, begun, next, stopped, past, turn, ended}
+use Rattle.casefile.specs.RowsLaws.{NextRow}
+use Rattle.row_reader.proofs.Rows.{ReadingRows, begun-rows, next, stopped-rows, past, turn-rows, ended-rows}
 use Rattle.row_reader.proofs.read_rows.Statement.{statement}
 use Rattle.row_reader.proofs.read_rows.Tie as tie
 
 abbrev Inv-loop : tie.InvT-loop
-Inv-loop s at n a₀ t₀ b₀ f₀ size i₀ from₀ p₀ a t b f i from p = Reading s at n a₀ t₀ b₀ f₀ a t b f i from p
+Inv-loop s at n a₀ t₀ b₀ f₀ size i₀ from₀ p₀ a t b f i from p = ReadingRows s at n a₀ t₀ b₀ f₀ a t b f i from p
 
 abbrev μ-loop : tie.MeasureT-loop
 μ-loop s at n a₀ t₀ b₀ f₀ size i₀ from₀ p₀ a t b f i from p = n - i
@@ -18,7 +19,7 @@ module _ (c : tie.In-loop Inv-loop μ-loop) where
   abbrev start : tie.Start Inv-loop μ-loop
   start = c .before .before .before .before .before .before
 
-  next-row : Next _ _ _ _ _ _ _ (c .before .loop .inv)
+  next-row : let l = c .before .loop in NextRow (start .args .n) (l .i) (l .from) (l .a) (l .t) (l .b) (l .f)
   next-row = next _ _ _ _ _ _ _ (c .before .loop .inv) (c .loop-test .taken)
 
 -- where the row has been read
@@ -31,7 +32,7 @@ module _ (c : tie.After-read-row Inv-loop μ-loop) where
 
 returns : tie.Need-returns Inv-loop μ-loop
 returns c = let w = c .before .before .before .before .before .before .before .before in
-    stopped _ _ _ _ _ _ _ (so-far w .loop .inv) (begin w .loop-test .taken) _ _ (w .read-row .ensures .status) (c .enum-told .given .1) _ _ _ _
+    stopped-rows _ _ _ _ _ _ _ (so-far w .loop .inv) (begin w .loop-test .taken) _ _ (w .read-row .ensures .status) (c .enum-told .given .1) _ _ _ _
 
 add-p : tie.Need-add-p Inv-loop μ-loop
 add-p c = let w = c .before .before .before .before .before .before .before .before in
@@ -40,7 +41,7 @@ add-p c = let w = c .before .before .before .before .before .before .before .bef
 
 loop-again : tie.Need-loop-again Inv-loop μ-loop
 loop-again c = let w = c .before .before .before .before .before .before .before .before in
-    turn _ _ _ _ _ _ _ (so-far w .loop .inv) (begin w .loop-test .taken) (so-far w .before .row-size .ensures) (w .read-row .ensures) (c .enum-told2 .given .1)
+    turn-rows _ _ _ _ _ _ _ (so-far w .loop .inv) (begin w .loop-test .taken) (so-far w .before .row-size .ensures) (w .read-row .ensures) (c .enum-told2 .given .1)
 
 pub read-rows-spec : {M : Type 1} → statement M
 read-rows-spec =
@@ -49,7 +50,7 @@ read-rows-spec =
     Inv-loop
     μ-loop
     (λ c κs. search needs)
-    (λ c. begun _ _ _ _ _ _ _ (c .before .before .before .before .pre .0) (c .before .before .before .before .pre .1))
+    (λ c. begun-rows _ _ _ _ _ _ _ (c .before .before .before .before .pre .0) (c .before .before .before .before .pre .1))
     (λ c. omega (arith, next-row c, start c .good))
     (λ c. omega (arith, next-row c, start c .good))
     (λ c. omega (arith, next-row c, start c .good))
@@ -83,4 +84,4 @@ read-rows-spec =
     (λ c. omega (arith, c .before .loop .inv))
     (λ c. omega (arith, c .before .loop .inv))
     (λ c. omega (arith, c .before .loop .inv))
-    (λ c. ended _ _ _ _ _ _ _ (c .before .loop .inv) (c .loop-test .left)))
+    (λ c. ended-rows _ _ _ _ _ _ _ (c .before .loop .inv) (c .loop-test .left)))

@@ -7,114 +7,82 @@ use borrow.Author.Needs.{needs}
 use Rattle.row_writer.proofs.write_row.Statement.{statement}
 use Rattle.row_writer.proofs.write_row.Tie as tie
 
-mul-tolerances : tie.Need-mul-tolerances
-mul-tolerances c = search needs
+-- where all has been written: the writes, from the last to the first
+module _ (c : tie.After-slice-known6) where
+  abbrev right-tolerance : tie.After-write-u32s
+  right-tolerance = c .before .before
 
-add-tolerances : tie.Need-add-tolerances
-add-tolerances c = search needs
+  abbrev right-side : tie.After-write-i32s
+  right-side = right-tolerance .before .before .before .before
 
-mul-right-side : tie.Need-mul-right-side
-mul-right-side c = search needs
+  abbrev tolerances : tie.After-write-u16s
+  tolerances = right-side .before .before .before .before
 
-add-right-side : tie.Need-add-right-side
-add-right-side c = search needs
+  abbrev coefficients : tie.After-write-i16s
+  coefficients = tolerances .before .before .before .before
 
-add-right-tolerance : tie.Need-add-right-tolerance
-add-right-tolerance c = search needs
+  abbrev header : tie.After-write-header
+  header = coefficients .before .before .before .before
 
-row-length-requires : tie.Need-row-length-requires
-row-length-requires c κs = search needs
+  abbrev places : tie.After-right-tolerance-at
+  places = header .before .before .before
 
-cast-write-header : tie.Need-cast-write-header
-cast-write-header c = search needs
-
-write-header-requires : tie.Need-write-header-requires
-write-header-requires c κs = search needs
-
-sub-write-i16s : tie.Need-sub-write-i16s
-sub-write-i16s c = search needs
-
-part-write-i16s-start : tie.Need-part-write-i16s-start
-part-write-i16s-start c = search needs
-
-part-write-i16s-end : tie.Need-part-write-i16s-end
-part-write-i16s-end c = search needs
-
-write-i16s-requires : tie.Need-write-i16s-requires
-write-i16s-requires c κs = search needs
-
-sub-write-u16s : tie.Need-sub-write-u16s
-sub-write-u16s c = search needs
-
-part-write-u16s-start : tie.Need-part-write-u16s-start
-part-write-u16s-start c = search needs
-
-part-write-u16s-end : tie.Need-part-write-u16s-end
-part-write-u16s-end c = search needs
-
-write-u16s-requires : tie.Need-write-u16s-requires
-write-u16s-requires c κs = search needs
-
-sub-write-i32s : tie.Need-sub-write-i32s
-sub-write-i32s c = search needs
-
-part-write-i32s-start : tie.Need-part-write-i32s-start
-part-write-i32s-start c = search needs
-
-part-write-i32s-end : tie.Need-part-write-i32s-end
-part-write-i32s-end c = search needs
-
-write-i32s-requires : tie.Need-write-i32s-requires
-write-i32s-requires c κs = search needs
-
-sub-write-u32s : tie.Need-sub-write-u32s
-sub-write-u32s c = search needs
-
-part-write-u32s-start : tie.Need-part-write-u32s-start
-part-write-u32s-start c = search needs
-
-part-write-u32s-end : tie.Need-part-write-u32s-end
-part-write-u32s-end c = search needs
-
-write-u32s-requires : tie.Need-write-u32s-requires
-write-u32s-requires c κs = search needs
+  abbrev start : tie.Start
+  start = places .before .before .before .before .before .before
 
 same-length : tie.Need-same-length
-same-length c = let s = c .before .before .before .before .before .before .before .before .before .before .before .before .before .before .before .before .before .before .before .before .before .before .before .before in
-    omega (arith, s .pre, c .before .before .before .before .before .before .before .before .before .before .before .before .before .before .before .before .before .before .write-header .kept, c .before .before .before .before .before .before .before .before .before .before .before .before .before .before .write-i16s .kept, c .before .before .before .before .before .before .before .before .before .before .write-u16s .kept, c .before .before .before .before .before .before .write-i32s .kept, c .before .before .write-u32s .kept)
+same-length c =
+    omega (
+      arith,
+      start c .pre,
+      header c .write-header .kept,
+      coefficients c .write-i16s .kept,
+      tolerances c .write-u16s .kept,
+      right-side c .write-i32s .kept,
+      right-tolerance c .write-u32s .kept,
+    )
 
 returns : tie.Need-returns
-returns c = let s = c .before .before .before .before .before .before .before .before .before .before .before .before .before .before .before .before .before .before .before .before .before .before .before .before in
-    let a = s .args in
-    row-written (now (a .out)) (now (a .a)) (now (a .t)) (now (a .b)) (now (a .f)) (s .pre) _ _ _ _ _ _ (c .before .before .before .before .before .before .before .before .before .before .before .before .before .before .before .before .before .before .before .row-length .ensures) (c .before .before .before .before .before .before .before .before .before .before .before .before .before .before .before .before .before .before .write-header .ensures) (c .before .before .before .before .before .before .before .before .before .before .before .before .before .before .write-i16s .ensures) (c .before .before .before .before .before .before .before .before .before .before .write-u16s .ensures) (c .before .before .before .before .before .before .write-i32s .ensures) (c .before .before .write-u32s .ensures)
+returns c = let g = start c .args in
+    row-written (now (g .out)) (now (g .a)) (now (g .t)) (now (g .b)) (now (g .f)) (start c .pre .1) _ _ _ _ _ _ _ _ _
+    (header c .before .row-length .ensures)
+    (places c .before .before .tolerances-at .ensures)
+    (places c .before .right-side-at .ensures)
+    (places c .right-tolerance-at .ensures)
+    (header c .write-header .ensures)
+    (coefficients c .write-i16s .ensures)
+    (tolerances c .write-u16s .ensures)
+    (right-side c .write-i32s .ensures)
+    (right-tolerance c .write-u32s .ensures)
 
 pub write-row-spec : {M : Type 1} → statement M
 write-row-spec =
     tie.close
     (tie.spec
-    mul-tolerances
-    add-tolerances
-    mul-right-side
-    add-right-side
-    add-right-tolerance
-    row-length-requires
-    cast-write-header
-    write-header-requires
-    sub-write-i16s
-    part-write-i16s-start
-    part-write-i16s-end
-    write-i16s-requires
-    sub-write-u16s
-    part-write-u16s-start
-    part-write-u16s-end
-    write-u16s-requires
-    sub-write-i32s
-    part-write-i32s-start
-    part-write-i32s-end
-    write-i32s-requires
-    sub-write-u32s
-    part-write-u32s-start
-    part-write-u32s-end
-    write-u32s-requires
+    (λ c κs. search needs)
+    (λ c. search needs)
+    (λ c κs. search needs)
+    (λ c. search needs)
+    (λ c κs. search needs)
+    (λ c. search needs)
+    (λ c κs. search needs)
+    (λ c. search needs)
+    (λ c κs. search needs)
+    (λ c. search needs)
+    (λ c. search needs)
+    (λ c. search needs)
+    (λ c κs. search needs)
+    (λ c. search needs)
+    (λ c. search needs)
+    (λ c. search needs)
+    (λ c κs. search needs)
+    (λ c. search needs)
+    (λ c. search needs)
+    (λ c. search needs)
+    (λ c κs. search needs)
+    (λ c. search needs)
+    (λ c. search needs)
+    (λ c. search needs)
+    (λ c κs. search needs)
     same-length
     returns)

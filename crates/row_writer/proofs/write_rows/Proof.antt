@@ -1,9 +1,13 @@
 -- `row_writer::write_rows` meets its contract: the law of the rows written so far.
 -- Assumes nothing.
-use Prim.Native.Nat.{_-_}
+use Prim.Native.Nat.{_+_, _-_, _≤_}
 use native.Mathlib.Omega.{arith}
 use borrow.Author.Needs.{needs}
-use Rattle.row_writer.proofs.Writing.{Writing, Next, begun, next, row-room, turn, ended}
+use lib.ListN.{length}
+use denote.Ref.{now}
+use Rattle.casefile.specs.Layout.{rowSize}
+use Rattle.casefile.specs.RowsLaws.{NextRow}
+use Rattle.row_writer.proofs.Writing.{Writing, begun, next, row-room, row-lists, turn, ended}
 use Rattle.row_writer.proofs.write_rows.Statement.{statement}
 use Rattle.row_writer.proofs.write_rows.Tie as tie
 
@@ -18,16 +22,17 @@ module _ (c : tie.In-loop Inv-loop μ-loop) where
   abbrev start : tie.Start Inv-loop μ-loop
   start = c .before .before .before .before .before .before
 
-  next-row : Next _ _ _ _ _ _ (c .before .loop .inv)
+  next-row : let l = c .before .loop in let g = start .args in
+      NextRow (g .n) (l .i) (l .from) (now (g .a)) (now (g .t)) (now (g .b)) (now (g .f)) × (l .p + rowSize (g .n) ≤ length (l .out))
   next-row = next _ _ _ _ _ _ (c .before .loop .inv) (c .loop-test .taken)
 
 add-p : tie.Need-add-p Inv-loop μ-loop
 add-p c = let w = c .before .before .before .before .before .before .before .before in
-    omega (arith, next-row w, start w .good, w .before .loop .inv .same, w .before .before .row-size .ensures)
+    omega (arith, next-row w, start w .good, w .before .loop .inv .running .same, w .before .before .row-size .ensures)
 
 loop-again : tie.Need-loop-again Inv-loop μ-loop
 loop-again c = let w = c .before .before .before .before .before .before .before .before in
-    turn _ _ _ _ _ _ (w .before .loop .inv) (w .loop-test .taken) (w .before .before .row-size .ensures) _ (c .before .before .write-row .ensures)
+    turn _ _ _ _ _ _ (w .before .loop .inv) (w .loop-test .taken) (w .before .before .row-size .ensures) (c .before .before .write-row .ensures)
 
 pub write-rows-spec : {M : Type 1} → statement M
 write-rows-spec =
@@ -36,7 +41,7 @@ write-rows-spec =
     Inv-loop
     μ-loop
     (λ c κs. search needs)
-    (λ c. begun _ _ _ _ _ _ (c .before .before .before .before .pre))
+    (λ c. begun _ _ _ _ _ _ (c .before .before .before .before .pre .0) (c .before .before .before .before .pre .1))
     (λ c. omega (arith, next-row c, start c .good))
     (λ c. omega (arith, next-row c, start c .good))
     (λ c. omega (arith, next-row c, start c .good))
@@ -58,9 +63,9 @@ write-rows-spec =
     (λ c. omega (arith, next-row (c .before .before .before .before), start (c .before .before .before .before) .good))
     (λ c. omega (arith, next-row (c .before .before .before .before), start (c .before .before .before .before) .good))
     (λ c. omega (arith, next-row (c .before .before .before .before), start (c .before .before .before .before) .good))
-    (λ c κs. let w = c .before .before .before .before .before in row-room _ _ _ _ _ _ (w .before .loop .inv) (w .loop-test .taken))
+    (λ c κs. let w = c .before .before .before .before .before in (row-room _ _ _ _ _ _ (w .before .loop .inv) (w .loop-test .taken), row-lists _ _ _ _ _ _ (w .before .loop .inv) (w .loop-test .taken)))
     add-p
     (λ c. omega (arith, c .before .before .before .before .before .before .before .before .loop-test .taken))
     loop-again
-    (λ c. omega (arith, c .before .loop .inv))
+    (λ c. omega (arith, c .before .loop .inv .running .same))
     (λ c. ended _ _ _ _ _ _ (c .before .loop .inv) (c .loop-test .left)))

@@ -11,11 +11,9 @@ use lib.IntN.{ℤ, pos, natAbs, _+ℤ_}
 use mir.Syntax.{w32, w64}
 use mir.Val.{SFits, toZ, ofZ}
 use mir.Facts.{toZ-ofZ}
-use Rattle.integers.specs.Size.{sfits-size}
-use Rattle.integers.specs.Tables.{all-set-at}
-use Rattle.elimination.specs.Matrix.{Within}
+use Rattle.integers.specs.Size.{sfits-size, sum-ok}
+use Rattle.integers.specs.Tables.{Within, within-set}
 use Rattle.solver.specs.Refinement.{figure-limit, gain, gained-from}
-use Rattle.solver.specs.Sizes.{gain-le}
 use Rattle.solver.specs.Laws.{gained-more, gained-stop, gained-done}
 use Rattle.solver.proofs.gain_figures.Statement.{statement}
 use Rattle.solver.proofs.gain_figures.Tie as tie
@@ -46,9 +44,6 @@ module _ (c : tie.At-loop Inv-loop μ-loop) where
   figure-size : natAbs (getD y′ j′ (pos 0)) ≤ figure-limit
   figure-size = c .loop .inv .1 j′
 
-  gain-size : natAbs (gain y′ d′ j′) ≤ 30000000
-  gain-size = gain-le y′ d′ j′ (c .loop .inv .1) (c .before .pre .corrections)
-
   read-narrow : toZ w32 (ofZ w32 (getD y′ j′ (pos 0))) ≡ getD y′ j′ (pos 0)
   read-narrow = toZ-ofZ (sfits-size (omega (arith, figure-size)))
 
@@ -59,7 +54,7 @@ module _ (c : tie.At-loop Inv-loop μ-loop) where
   read-correction = toZ-ofZ (sfits-size (omega (arith, c .before .pre .corrections j′)))
 
   sum-fits : SFits w64 (gain y′ d′ j′)
-  sum-fits = sfits-size (omega (arith, gain-size))
+  sum-fits = sfits-size (omega (arith, sum-ok (getD y′ j′ (pos 0)) (getD d′ j′ (pos 0)) _ _ figure-size (c .before .pre .corrections j′)))
 
 -- the sum and its size, after the test's call
 module _ (c : tie.After-v2 Inv-loop μ-loop) where
@@ -133,7 +128,7 @@ loop-again c =
     let d = head′ c in
     rw (read-gain (c .before .before), toZ-ofZ (narrow c)) (
       omega arith,
-      all-set-at (λ (_ : ℕ) (x : ℤ). natAbs x ≤ figure-limit) (pos 0) (y′ d) (j′ d) (gain (y′ d) (d′ d) (j′ d)) (kept c) (d .loop .inv .1),
+      within-set (y′ d) (j′ d) (gain (y′ d) (d′ d) (j′ d)) (kept c) (d .loop .inv .1),
       sym (gained-more (d′ d) (j′ d) (n′ d) (y′ d) (omega arith) (kept c)) ∙ d .loop .inv .2,
     )
 

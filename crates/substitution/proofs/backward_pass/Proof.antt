@@ -11,10 +11,9 @@ use mir.Syntax.{w64}
 use mir.Val.{toZ, ofZ}
 use mir.Facts.{toZ-ofZ}
 use Rattle.integers.specs.Size.{sfits-size}
-use Rattle.elimination.specs.Matrix.{Within}
-use Rattle.integers.specs.Tables.{all-set-at}
+use Rattle.integers.specs.Tables.{Within, zeros-within, within-set}
 use Rattle.substitution.specs.Passes.{correction-at, correction-limit, backward-from, backward}
-use Rattle.substitution.specs.BackwardLaws.{correctable, none-within, backward-more, backward-stop, backward-done}
+use Rattle.substitution.specs.BackwardLaws.{correctable, backward-more, backward-stop, backward-done}
 use Rattle.substitution.proofs.backward_pass.Statement.{statement}
 use Rattle.substitution.proofs.backward_pass.Tie as tie
 
@@ -62,7 +61,7 @@ value-size c = c .magnitude .ensures ∙ ap natAbs (read-value (c .before))
 
 loop-holds : tie.Need-loop-holds Inv-loop μ-loop
 unfolding backward
-loop-holds c = rw (c .pre .1) (omega arith, none-within, refl)
+loop-holds c = rw (c .pre .1) (omega arith, zeros-within 8, refl)
 
 sub-i : tie.Need-sub-i Inv-loop μ-loop
 sub-i c = omega arith
@@ -108,7 +107,7 @@ loop-again c =
     let h : natAbs (value e) ≤ correction-limit = omega (arith, value-size (c .before)) in
     rw (read-value (c .before .before)) (
       omega arith,
-      all-set-at (λ (_ : ℕ) (x : ℤ). natAbs x ≤ correction-limit) (pos 0) (d′ e) (i′ e) (value e) h (e .loop .inv .1),
+      within-set (d′ e) (i′ e) (value e) h (e .loop .inv .1),
       sym (backward-more (rows′ e) (z′ e) (n′ e) (i′ e) (d′ e) h) ∙ sym (left-is e (omega arith)),
     )
 

@@ -9,11 +9,11 @@ use lib.IntN.{ℤ, pos, _-ℤ_, _*ℤ_}
 use mir.Syntax.{w64}
 use mir.Val.{SFits, toZ, ofZ}
 use mir.Facts.{toZ-ofZ}
-use Rattle.integers.specs.Size.{sfits-size}
+use Rattle.integers.specs.Size.{sfits-size, product-ok}
 use Rattle.rounding.specs.Laws.{defined}
 use Rattle.substitution.specs.Passes.{sum-above, correction}
 use Rattle.substitution.specs.Bounds.{Correctable}
-use Rattle.substitution.specs.BackwardLaws.{scaled-le, numerator-small, working-fits}
+use Rattle.substitution.specs.BackwardLaws.{numerator-small, working-fits}
 use borrow.Author.Needs.{needs}
 use Rattle.substitution.proofs.correction_of.Statement.{statement}
 use Rattle.substitution.proofs.correction_of.Tie as tie
@@ -39,7 +39,7 @@ module _ (c : tie.After-sum-above) where
   ready = c .before .pre
 
   scaled : SFits w64 (pos 256 *ℤ z′)
-  scaled = sfits-size (omega (arith, scaled-le row′ z′ d′ i′ n′ ready))
+  scaled = sfits-size (omega (arith, product-ok (pos 256) z′ 256 _ (omega arith) (ready .right)))
 
   numerator : SFits w64 (pos 256 *ℤ z′ -ℤ sum-above row′ d′ i′ n′)
   numerator = sfits-size (numerator-small row′ z′ d′ i′ n′ ready)

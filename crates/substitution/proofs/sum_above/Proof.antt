@@ -12,7 +12,7 @@ use mir.Facts.{toZ-ofZ}
 use Rattle.integers.specs.Sums.{sum, sum-empty}
 use Rattle.substitution.specs.Passes.{product-above}
 use Rattle.substitution.specs.Bounds.{Summable}
-use Rattle.substitution.specs.BackwardLaws.{above-more, working-fits, correction-fits, term-fits, sum-fits}
+use Rattle.substitution.specs.BackwardLaws.{working-fits, correction-fits, term-fits, sum-fits}
 use Rattle.substitution.proofs.sum_above.Statement.{statement}
 use Rattle.substitution.proofs.sum_above.Tie as tie
 
@@ -52,7 +52,10 @@ module _ (c : tie.In-loop Inv-loop μ-loop) where
   read-term = toZ-ofZ (term-fits row′ d′ i′ n′ ready j′)
 
   more : sum (j′ + 1 - suc i′) (product-above row′ d′ i′) ≡ sum (j′ - suc i′) (product-above row′ d′ i′) +ℤ getD row′ j′ (pos 0) *ℤ getD d′ j′ (pos 0)
-  more = above-more row′ d′ i′ j′ (omega arith)
+  more =
+      let e : j′ + 1 - suc i′ ≡ suc (j′ - suc i′) = omega arith in
+      let f : suc i′ + (j′ - suc i′) ≡ j′ = omega arith in
+      rw (e, f)
 
   next : SFits w64 (sum (j′ - suc i′) (product-above row′ d′ i′) +ℤ getD row′ j′ (pos 0) *ℤ getD d′ j′ (pos 0))
   next = rw more at (sum-fits row′ d′ i′ n′ ready (j′ + 1 - suc i′) (let p = ready .columns in omega arith))

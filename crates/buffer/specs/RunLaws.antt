@@ -1,0 +1,105 @@
+-- Lists one after another: how long they are, where each stands, and the loop that writes them into a buffer from a place on. Assumes nothing.
+use mathlib.Core.Path.{_≡_, refl, sym, ap, _∙_}
+use mathlib.Core.List.{List, [], _∷_, _++_, append-assoc, append-nil, map}
+use Prim.Native.Nat.{ℕ, zero, suc, _+_, _*_, _≤_, _<_}
+use native.Mathlib.Nat.{mul-zero, mul-suc, suc-mul, mul-le-mul-right}
+use native.Mathlib.Numerals.{add-one}
+use native.Mathlib.Decide.{ℕ-discrete}
+use native.Mathlib.Omega.{arith}
+use lib.ListN.{length, getD, take, drop, length-append}
+use lib.Seq.{take-suc, drop-at}
+use Rattle.buffer.specs.Buffer.{onto, onto-at, run, joined}
+use Rattle.buffer.specs.Laws.{part, put, put-is, length-onto-at, onto-at-none, onto-at-then}
+
+-- ---- lengths and places
+
+module _ {X : Type 0} (w : ℕ) (piece : ℕ → List X) where
+  pub length-run : ((i : ℕ) → length (piece i) ≡ w) → (n : ℕ) → length (run n piece) ≡ w * n
+  unfolding run
+  length-run each zero = sym (mul-zero w)
+  length-run each (suc n) = length-append (run n piece) (piece n) ∙ omega (arith, length-run each n, each n, mul-suc w n)
+
+  pub run-within : (n : ℕ) → ((i : ℕ) → i < n → length (piece i) ≤ w) → length (run n piece) ≤ n * w
+  unfolding run
+  run-within zero each = omega arith
+  run-within (suc n) each =
+      omega (arith, length-append (run n piece) (piece n), run-within n (λ i l. each i (omega arith)), each n (omega arith), suc-mul n w)
+
+-- piece i of a run of pieces of w elements stands at w i, with something behind it
+pub record Piece {X : Type 0} (w i : ℕ) (piece : ℕ → List X) (l : List X) : Type 0 where
+  pub behind : List X
+  pub here : drop (w * i) l ≡ piece i ++ behind
+
+module _ {X : Type 0} (w : ℕ) (piece : ℕ → List X) (each : (i : ℕ) → length (piece i) ≡ w) where
+  pub run-piece : (n i : ℕ) (rest : List X) → i < n → Piece w i piece (run n piece ++ rest)
+  unfolding run
+  run-piece zero i rest h = absurd (omega arith)
+  run-piece (suc n) i rest h = go (ℕ-discrete i n) (λ l. run-piece n i (piece n ++ rest) l)
+    where
+      go : Dec (i ≡ n) → (i < n → Piece w i piece (run n piece ++ (piece n ++ rest))) → Piece w i piece ((run n piece ++ piece n) ++ rest)
+      go (yes e) r =
+          record {
+            behind = rest;
+            here = rw (append-assoc, e) (drop-at (run n piece) (piece n ++ rest) (w * n) (length-run w piece each n));
+          }
+      go (no f) r = rw append-assoc (r (omega arith))
+
+pub joined-map : {A X : Type 0} (g : A → List X) (xs : List A) → joined (λ l. l) (map g xs) ≡ joined g xs
+joined-map g [] = refl
+joined-map g (x ∷ xs) = rw (joined-map g xs)
+
+module _ {A X : Type 0} (f : A → List X) where
+  pub joined-append : (xs ys : List A) → joined f (xs ++ ys) ≡ joined f xs ++ joined f ys
+  joined-append [] ys = refl
+  joined-append (x ∷ xs) ys = rw (joined-append xs ys) (sym (append-assoc (f x) (joined f xs) (joined f ys)))
+
+  -- the first things of a list, by their places
+  pub joined-run : (d : A) (l : List A) (i : ℕ) → i ≤ length l → joined f (take i l) ≡ run i (λ j. f (getD l j d))
+  unfolding run
+  joined-run d l zero h = refl
+  joined-run d l (suc i) h =
+      rw (take-suc l i d h, joined-append (take i l) (getD l i d ∷ []), append-nil (f (getD l i d)), joined-run d l i (omega arith))
+
+-- ---- the loop that writes n pieces of at most w elements each, from `at` on: i are written, and the next begins at `next`
+
+module _ {X : Type 0} (w : ℕ) (piece : ℕ → List X) (n at : ℕ) (out₀ : List X) where
+  pub record Running (out : List X) (i next : ℕ) : Type 0 where
+    pub room : at + n * w ≤ length out₀
+    pub count : i ≤ n
+    pub short : length (run i piece) ≤ i * w
+    pub place : next ≡ at + length (run i piece)
+    pub same : length out ≡ length out₀
+    pub is : out ≡ onto-at at (run i piece) out₀
+
+module _ {X : Type 0} {w : ℕ} {piece : ℕ → List X} {n at : ℕ} {out₀ : List X} where
+  pub run-begun : at + n * w ≤ length out₀ → Running w piece n at out₀ out₀ 0 at
+  unfolding run
+  run-begun h =
+      record { room = h; count = omega arith; short = omega arith; place = omega arith; same = refl; is = sym (onto-at-none at out₀) }
+
+  module _ {out : List X} {i next : ℕ} (r : Running w piece n at out₀ out i next) where
+    -- the next piece has room
+    pub run-next : i < n → next + w ≤ length out
+    run-next h = let m : suc i * w ≤ n * w = mul-le-mul-right w h in omega (arith, suc-mul i w, r)
+
+    pub run-turn : {last : ℕ} {out₁ : List X} → i < n → length (piece i) ≤ w → last ≡ next + length (piece i) → out₁ ≡ onto-at next (piece i) out
+        → Running w piece n at out₀ out₁ (i + 1) last
+    unfolding run
+    run-turn h s p e =
+        let l : length (run (suc i) piece) ≡ length (run i piece) + length (piece i) = length-append (run i piece) (piece i) in
+        record {
+          room = r .room;
+          count = omega arith;
+          short = rw (add-one i) (omega (arith, l, suc-mul i w, r .short));
+          place = rw (add-one i) (omega (arith, l, r .place));
+          same = ap length e ∙ length-onto-at next (piece i) out (omega (arith, run-next h)) ∙ r .same;
+          is = e ∙ rw (add-one i, r .place, r .is) (onto-at-then at (run i piece) (piece i) out₀ (omega (arith, r .room)));
+        }
+
+    -- a piece of w elements, over the front of the part that is left
+    pub run-turn-lent : {ys : List X} → i < n → length (piece i) ≡ w → ys ≡ onto (piece i) (part out next)
+        → Running w piece n at out₀ (put out next ys) (i + 1) (next + w)
+    run-turn-lent h k e = run-turn h (omega arith) (omega arith) (put-is out (piece i) next e)
+
+    pub run-ended : n ≤ i → Running w piece n at out₀ out n next
+    run-ended h = let e : i ≡ n = omega (arith, r .count) in rw e at r

@@ -1,0 +1,47 @@
+-- `case_writer::write_trial` meets its contract, by whether the case brings a trial.
+-- Assumes nothing.
+use Prim.Native.Nat.{ℕ}
+use native.Mathlib.Omega.{arith}
+use mathlib.Core.Path.{subst}
+use denote.Ref.{now}
+use Rattle.case_writer.specs.Room.{TrialRoom}
+use Rattle.case_writer.proofs.Whole.{trial-written, no-trial}
+use borrow.Author.Needs.{needs}
+use Rattle.case_writer.proofs.write_trial.Statement.{statement}
+use Rattle.case_writer.proofs.write_trial.Tie as tie
+
+-- with a trial
+module _ (k : tie.After-trial-length) where
+  abbrev start : tie.Start
+  start = k .before .before .before
+
+  brought : TrialRoom (now (start .args .out)) 0 (start .args .n) (now (start .args .y))
+  brought = subst (λ (r : ℕ). TrialRoom (now (start .args .out)) r (start .args .n) (now (start .args .y))) (k .before .if1 .taken) (start .pre)
+
+returns : tie.Need-returns
+returns c =
+    let w = c .before .before in
+    let h = w .before .before .before .before in
+    let k = h .before .before in
+    let a = start k .args in
+    rw (k .before .if1 .taken) (trial-written (now (a .out)) _ (now (a .y)) _ _ (omega (arith, brought k, k .trial-length .ensures)) (h .write-header .ensures) (w .write-i32s .ensures))
+
+returns-2 : tie.Need-returns-2
+returns-2 c =
+    let a = c .before .before .args in
+    no-trial (now (a .out)) (a .rounds) (now (a .y)) (c .if1 .left)
+
+pub write-trial-spec : {M : Type 1} → statement M
+write-trial-spec =
+    tie.close
+    (tie.spec
+    (λ c κs. search needs)
+    (λ c. search needs)
+    (λ c κs. omega (arith, brought (c .before)))
+    (λ c. omega (arith, brought (c .before .before .before .before)))
+    (λ c. omega (arith, brought (c .before .before .before .before)))
+    (λ c. search needs)
+    (λ c κs. omega (arith, brought (c .before .before .before .before .before)))
+    (λ c. search needs)
+    returns
+    returns-2)
