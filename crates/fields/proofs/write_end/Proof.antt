@@ -8,7 +8,7 @@ use Rattle.fields.proofs.write_end.Tie as tie
 
 returns : tie.Need-returns
 unfolding field bytes
-returns c = search needs
+returns c = c .before .before .write-header .ensures
 
 pub write-end-spec : {M : Type 1} → statement M
 write-end-spec = tie.close (tie.spec (λ c. search needs) (λ c κs. search needs) (λ c. search needs) returns)
