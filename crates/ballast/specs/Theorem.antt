@@ -16,6 +16,7 @@ use Rattle.outcome.specs.declared.Outcome.the-variants.{Count}
 use Rattle.casefile.specs.Case.{Case, mostTanks, mostRounds}
 use Rattle.casefile.specs.CaseLaws.{Good, good, decode-fine}
 use Rattle.casefile.specs.Decode.{decode, stored}
+use Rattle.outcome.specs.Outcome.{said}
 use Rattle.casefile.specs.Write.{inRoom, leaves}
 use Rattle.casefile.specs.WriteLaws.{Filed, filed-count, in-room}
 use Rattle.judge.specs.System.{System, Trial, row, trial, residual, reach}
@@ -63,8 +64,8 @@ module _ (s : System) (D rounds : ℕ) (Y : List ℤ) (h : 0 < s .n) (k : s .n �
   bytes = recordOf (s .n) rounds Y (judgement s t)
 
   -- the bytes agree with the judgement
-  said : Agrees s t (recordedFinding (s .n) bytes)
-  said =
+  agreeing : Agrees s t (recordedFinding (s .n) bytes)
+  agreeing =
       let j = judgement s t in
       let g = judgement-agrees s t h k in
       record {
@@ -83,7 +84,7 @@ module _ (s : System) (D rounds : ℕ) (Y : List ℤ) (h : 0 < s .n) (k : s .n �
   record-justified : Justified s (record { n = s .n; D = D; Y = recordedAnswer bytes }) (recordedFinding (s .n) bytes)
   record-justified =
       justified s (record { n = s .n; D = D; Y = recordedAnswer bytes }) h (recordedFinding (s .n) bytes)
-      (agrees-with t (recordedAnswer bytes) (λ j l. sym (answered j l)) s (recordedFinding (s .n) bytes) said)
+      (agrees-with t (recordedAnswer bytes) (λ j l. sym (answered j l)) s (recordedFinding (s .n) bytes) agreeing)
 
 -- ---- a finished case
 
@@ -113,7 +114,7 @@ module _ (c : Case) (g : Good c) where
 -- ---- the call
 
 -- a count comes only from an answer, and the bytes at the buffer's front are its record
-module _ (input out : List ℕ) (m : ℕ) (e : call input out .outcome ≡ Count m) where
+module _ (input out : List ℕ) (m : ℕ) (e : call input out .outcome ≡ said (Count m)) where
   abbrev x : FileAnswer
   x = answer-of (decode input)
 
@@ -150,7 +151,7 @@ promised input entry o exit e =
     record {
       called = e;
       demand = λ m q.
-          subst (λ b. Demand input b m) (ap (λ w. w .buffer) (sym e)) (demanded input entry m (ap (λ w. w .outcome) (sym e) ∙ q));
+          subst (λ b. Demand input b m) (ap (λ w. w .buffer) (sym e)) (demanded input entry m (ap (λ w. w .outcome) (sym e) ∙ ap said q));
     }
 
 -- ---- what a record asks of an answer: rows and rounds of a byte each

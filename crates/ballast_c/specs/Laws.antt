@@ -12,6 +12,7 @@ use Rattle.outcome.specs.declared.Outcome.{Outcome}
 use Rattle.outcome.specs.declared.Outcome.the-variants.{Count, Refused}
 use Rattle.buffer.specs.Laws.{holds, within-front}
 use Rattle.outcome.specs.declared.Status.the-variants.{Accepted}
+use Rattle.outcome.specs.Outcome.{said}
 use Rattle.outcome.specs.Laws.{no-count}
 use Rattle.casefile.specs.declared.Case.{Case}
 use Rattle.casefile.specs.Case.{Case as Figures}
@@ -31,7 +32,7 @@ use Rattle.ballast_c.specs.Calls.{tanks, text-call, Judged}
 -- ---- the result number
 
 pub small-refused : (r : Refusal) → Small (Refused r)
-small-refused r = record { count = λ m e. no-count r m e }
+small-refused r = record { count = λ m e. no-count r m (ap said e) }
 
 pub small-count : (k : ℕ) → k ≤ text-room → Small (Count k)
 small-count k h = record { count = λ m e. let q : k ≡ m = cc in omega arith }
@@ -55,12 +56,12 @@ few-tanks input c w = rw (w .held) (omega (arith, good (w .figures) (decode-fine
 module _ (input entry exit : List ℕ) (o : Outcome) (p : Promise input entry o exit) where
   pub judged-small : Small o
   judged-small =
-      record { count = λ m e. omega (arith, count-le input entry m (ap (λ w. w .outcome) (sym (p .called)) ∙ e)) }
+      record { count = λ m e. omega (arith, count-le input entry m (ap (λ w. w .outcome) (sym (p .called)) ∙ ap said e)) }
 
   pub judged : (r : ℤ) → r ≡ number o → Judged input entry r exit
   judged r e =
       record {
-        called = returned (p .called) r e;
+        called = returned o (p .called) r e;
         demand = λ m q. p .demand m (number-count o m (sym e ∙ q));
       }
 
@@ -71,18 +72,18 @@ module _ (c : Figures) (entry exit : List ℕ) (o : Outcome) (p : leaves o exit 
   written-small =
       record {
         count = λ m e.
-            omega (arith, case-count-le c entry m (ap (λ x. x .outcome) (sym p) ∙ e));
+            omega (arith, case-count-le c entry m (ap (λ x. x .outcome) (sym p) ∙ ap said e));
       }
 
   pub written : (r : ℤ) → r ≡ number o → Returned r exit (write c entry)
-  written r e = returned p r e
+  written r e = returned o p r e
 
 -- ---- the printed verdict, into the buffer's first bytes
 
 module _ (input out : List ℕ) where
   pub text-short : (r : ℤ) → length out < text-room → r ≡ number (Refused BufferTooShort) → Returned r out (text-call input out)
   unfolding text-call
-  text-short r h e = returned (filed-short text-room Accepted (verdict-of text-room (answer-of (decode input))) out h) r e
+  text-short r h e = returned (Refused BufferTooShort) (filed-short text-room Accepted (verdict-of text-room (answer-of (decode input))) out h) r e
 
   module _ (count : ℕ) (after : List ℕ) (h : text-room ≤ length out) (same : length after ≡ length (take text-room out))
       (p : Printed (verdict-of (length (take text-room out)) (answer-of (decode input))) (take text-room out) count after) where
@@ -100,7 +101,7 @@ module _ (input out : List ℕ) where
     pub text-written : (r : ℤ) → r ≡ number (Count count) → Returned r (after ++ drop text-room out) (text-call input out)
     unfolding text-call
     text-written r e =
-        returned
+        returned (Count count)
         (filed-whole text-room Accepted t out count _ h refl (front .size)
         (rw (front .bytes) (within-front text-room t out (omega (arith, front .size, text-le)) h)))
         r e

@@ -7,12 +7,15 @@ use native.Mathlib.Omega.{arith}
 use lib.IntN.{ℤ, pos, negsuc, negℤ}
 use Rattle.outcome.specs.declared.Outcome.{Outcome}
 use Rattle.outcome.specs.declared.Outcome.the-variants.{Count, Refused}
-use Rattle.outcome.specs.Outcome.{numberOf, refusalOf, refuses, outcomeNumber}
+use Rattle.outcome.specs.Outcome.{numberOf, refusalOf, Said, said}
 use Rattle.outcome.specs.Laws.{refusal-of-number}
 use Rattle.casefile.specs.Write.{Written, leaves}
 
+abbrev pub numbered : Said → ℤ
+numbered s = cond (s .refused) (negℤ (pos (s .number))) (pos (s .number))
+
 abbrev pub number : Outcome → ℤ
-number o = cond (refuses o) (negℤ (pos (outcomeNumber o))) (pos (outcomeNumber o))
+number o = numbered (said o)
 
 -- what can be returned: a count that is a signed number of 64 bits
 pub record Small (o : Outcome) : Type 0 where
@@ -20,11 +23,11 @@ pub record Small (o : Outcome) : Type 0 where
 
 -- a call's result and its buffer are those of an outcome and the buffer beside it
 pub record Returned (result : ℤ) (exit : List ℕ) (w : Written) : Type 0 where
-  pub is : result ≡ number (w .outcome)
+  pub is : result ≡ numbered (w .outcome)
   pub buffer : exit ≡ w .buffer
 
-pub returned : {o : Outcome} {exit : List ℕ} {w : Written} → leaves o exit ≡ w → (r : ℤ) → r ≡ number o → Returned r exit w
-returned p r e = record { is = e ∙ ap (λ w. number (w .outcome)) p; buffer = ap (λ w. w .buffer) p }
+pub returned : (o : Outcome) {exit : List ℕ} {w : Written} → leaves o exit ≡ w → (r : ℤ) → r ≡ number o → Returned r exit w
+returned o p r e = record { is = e ∙ ap (λ w. numbered (w .outcome)) p; buffer = ap (λ w. w .buffer) p }
 
 -- ---- count or refusal, without ambiguity: the outcome that a number stands for
 

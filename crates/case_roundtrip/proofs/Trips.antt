@@ -8,6 +8,7 @@ use native.Mathlib.Nat.{mul-one}
 use lib.ListN.{length, take}
 use lib.IntN.{pos}
 use Rattle.outcome.specs.declared.Refusal.{Refusal}
+use Rattle.outcome.specs.Outcome.{said}
 use Rattle.outcome.specs.declared.Outcome.{Outcome}
 use Rattle.outcome.specs.declared.Outcome.the-variants.{Count, Refused as RefusedBy}
 use Rattle.bigendian.specs.NumberLaws.{Bytes}
@@ -19,29 +20,29 @@ use Rattle.casefile.specs.StoredLaws.{padded-holds, take-padded, Whole}
 use Rattle.casefile.specs.RowsLaws.{square-fits}
 use Rattle.casefile.specs.TailLaws.{brought-most}
 use Rattle.casefile.specs.CaseLaws.{Good, good, decode-fine}
-use Rattle.casefile.specs.Write.{write, leaves}
-use Rattle.casefile.specs.WriteLaws.{count-fits, written-read, read-written}
+use Rattle.casefile.specs.Write.{writeStatus, write, leaves}
+use Rattle.casefile.specs.WriteLaws.{count-accepted, count-fits, written-read, refused-status, read-written}
 use Rattle.case_roundtrip.specs.Trip.{readBack, writtenAndRead, comesBack, writtenAgain}
 
 -- ---- written, then read
 
-module _ (c : Case) (out : List ℕ) {o : Outcome} {exit : List ℕ} (e : leaves o exit ≡ write c out) where
-  answer : write c out .outcome ≡ o
+module _ (c : Case) (out : List ℕ) (o : Outcome) {exit : List ℕ} (e : leaves o exit ≡ write c out) where
+  answer : write c out .outcome ≡ said o
   answer = sym (ap (λ w. w .outcome) e)
 
-  back : (r : Reading) → r ≡ readBack (write c out .outcome) c → comesBack r exit ≡ writtenAndRead c out
+  back : (r : Reading) → r ≡ readBack (writeStatus c (length out)) c → comesBack r exit ≡ writtenAndRead c out
   back r q = ap₂ comesBack q (ap (λ w. w .buffer) e)
 
   pub fits : (m : ℕ) → o ≡ Count m → m ≤ length exit
-  fits m h = rw (← (ap (λ w. w .buffer) e)) at (count-fits c out m (answer ∙ h))
+  fits m h = rw (← (ap (λ w. w .buffer) e)) at (count-fits c out m (answer ∙ ap said h))
 
   pub is-read : (m : ℕ) → o ≡ Count m → (r : Reading) → r ≡ reading (decode (take m exit)) → comesBack r exit ≡ writtenAndRead c out
   is-read m h r q =
-      let d : decode (take m exit) ≡ accepted c = rw (← (ap (λ w. w .buffer) e)) at (written-read c out m (answer ∙ h)) in
-      back r (q ∙ ap reading d ∙ sym (ap (λ o. readBack o c) (answer ∙ h)))
+      let d : decode (take m exit) ≡ accepted c = rw (← (ap (λ w. w .buffer) e)) at (written-read c out m (answer ∙ ap said h)) in
+      back r (q ∙ ap reading d ∙ sym (ap (λ t. readBack t c) (count-accepted c out m (answer ∙ ap said h))))
 
   pub is-refused : (q : Refusal) → o ≡ RefusedBy q → (r : Reading) → r ≡ reading (refused q) → comesBack r exit ≡ writtenAndRead c out
-  is-refused q h r g = back r (g ∙ sym (ap (λ o. readBack o c) (answer ∙ h)))
+  is-refused q h r g = back r (g ∙ sym (ap (λ t. readBack t c) (refused-status c out q (answer ∙ ap said h))))
 
 -- ---- read, then written
 

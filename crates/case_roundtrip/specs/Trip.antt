@@ -2,18 +2,17 @@
 use mathlib.Core.List.{List}
 use Prim.Native.Nat.{ℕ}
 use lib.ListN.{length}
-use Rattle.outcome.specs.declared.Outcome.{Outcome}
-use Rattle.outcome.specs.declared.Outcome.the-variants.{Count, Refused}
-use Rattle.outcome.specs.declared.Status.the-variants.{Accepted, Refused as RefusedBy}
+use Rattle.outcome.specs.declared.Status.{Status}
+use Rattle.outcome.specs.declared.Status.the-variants.{Accepted, Refused}
 use Rattle.casefile.specs.declared.Reading.{Reading}
 use Rattle.casefile.specs.Case.{Case}
 use Rattle.casefile.specs.Layout.{longestCase}
 use Rattle.casefile.specs.Decode.{Decoded, accepted, refused, reading}
-use Rattle.casefile.specs.Write.{Written, filed, inRoom, write}
+use Rattle.casefile.specs.Write.{Written, filed, inRoom, writeStatus, write}
 
 -- "what the writer wrote into any buffer is read back as what was meant"; where it refused, the refusal
-abbrev pub readBack : Outcome → Case → Reading
-readBack (Count m) c = reading (accepted c)
+abbrev pub readBack : Status → Case → Reading
+readBack Accepted c = reading (accepted c)
 readBack (Refused r) c = reading (refused r)
 
 -- what was read back, and what the buffer holds
@@ -22,7 +21,7 @@ pub record ReadBack : Type 0 where
   pub buffer : List ℕ
 
 abbrev pub writtenAndRead : Case → List ℕ → ReadBack
-writtenAndRead c out = record { read = readBack (write c out .outcome) c; buffer = write c out .buffer }
+writtenAndRead c out = record { read = readBack (writeStatus c (length out)) c; buffer = write c out .buffer }
 
 abbrev pub comesBack : Reading → List ℕ → ReadBack
 comesBack read buffer = record { read = read; buffer = buffer }
@@ -30,4 +29,4 @@ comesBack read buffer = record { read = read; buffer = buffer }
 -- "what was read and written again has its old bytes": s over the front of out, where out has the room that the writer asks
 abbrev pub writtenAgain : Decoded → List ℕ → List ℕ → Written
 writtenAgain (accepted c) s out = filed (inRoom longestCase (length out) Accepted) s out
-writtenAgain (refused r) s out = filed (RefusedBy r) s out
+writtenAgain (refused r) s out = filed (Refused r) s out

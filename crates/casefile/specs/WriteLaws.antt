@@ -1,6 +1,6 @@
 -- What a call that files bytes in a buffer tells; and demand 2's round trip, over what the writer and the reader promise: what was written is read
 -- back as what was meant, and what was read and is written again has its old bytes. Assumes nothing.
-use mathlib.Core.Path.{_≡_, refl}
+use mathlib.Core.Path.{_≡_, refl, sym, ap}
 use mathlib.Core.List.{List}
 use Prim.Native.Nat.{ℕ, _≤_, _<_}
 use native.Mathlib.Omega.{arith}
@@ -12,8 +12,8 @@ use Rattle.outcome.specs.declared.Refusal.the-variants.{BufferTooShort}
 use Rattle.outcome.specs.declared.Outcome.the-variants.{Count, Refused as RefusedBy}
 use Rattle.outcome.specs.declared.Status.{Status}
 use Rattle.outcome.specs.declared.Status.the-variants.{Accepted, Refused}
-use Rattle.outcome.specs.Outcome.{check}
-use Rattle.outcome.specs.Laws.{no-count, check-accepted, first-accepted}
+use Rattle.outcome.specs.Outcome.{said, check}
+use Rattle.outcome.specs.Laws.{no-count, same-refusal, check-accepted, first-accepted}
 use Rattle.buffer.specs.Buffer.{onto}
 use Rattle.bigendian.specs.NumberLaws.{Bytes}
 use Rattle.buffer.specs.Laws.{length-onto, take-onto}
@@ -32,11 +32,16 @@ pub record Filed (t : Status) (bytes out : List ℕ) (m : ℕ) : Type 0 where
   pub buffer : filed t bytes out .buffer ≡ onto bytes out
   pub front : take m (filed t bytes out .buffer) ≡ bytes
 
-pub filed-count : (t : Status) (bytes out : List ℕ) (m : ℕ) → filed t bytes out .outcome ≡ Count m → Filed t bytes out m
+pub filed-count : (t : Status) (bytes out : List ℕ) (m : ℕ) → filed t bytes out .outcome ≡ said (Count m) → Filed t bytes out m
 filed-count Accepted bytes out m e =
-    let q : m ≡ length bytes = cc in
+    let q : m ≡ length bytes = sym (ap (λ s. s .number) e) in
     record { accepted = refl; count = q; buffer = refl; front = rw q (take-onto bytes out) }
 filed-count (Refused r) bytes out m e = no-count r m e
+
+-- a refusal is that of the status
+pub filed-refusal : (t : Status) (bytes out : List ℕ) (r : Refusal) → filed t bytes out .outcome ≡ said (RefusedBy r) → t ≡ Refused r
+filed-refusal Accepted bytes out r e = no-count r (length bytes) (sym e)
+filed-refusal (Refused q) bytes out r e = ap Refused (same-refusal q r e)
 
 module _ (asked : ℕ) (next : Status) where
   pub in-room : (room : ℕ) → inRoom asked room next ≡ Accepted → (asked ≤ room) × (next ≡ Accepted)
@@ -58,14 +63,17 @@ module _ (asked : ℕ) (next : Status) where
 
 -- ---- written, then read
 
-module _ (c : Case) (out : List ℕ) (m : ℕ) (e : write c out .outcome ≡ Count m) where
+module _ (c : Case) (out : List ℕ) (m : ℕ) (e : write c out .outcome ≡ said (Count m)) where
   written : Filed (writeStatus c (length out)) (encode c) out m
   unfolding write
   written = filed-count (writeStatus c (length out)) (encode c) out m e
 
+  pub count-accepted : writeStatus c (length out) ≡ Accepted
+  count-accepted = written .accepted
+
   fine : (longestCase ≤ length out) × (caseStatus c ≡ Accepted)
   unfolding writeStatus
-  fine = in-room longestCase (caseStatus c) (length out) (written .accepted)
+  fine = in-room longestCase (caseStatus c) (length out) count-accepted
 
   -- the count is within the longest case and the buffer
   pub count-le : m ≤ longestCase
@@ -81,6 +89,10 @@ module _ (c : Case) (out : List ℕ) (m : ℕ) (e : write c out .outcome ≡ Cou
   pub written-read : decode (take m (write c out .buffer)) ≡ accepted c
   unfolding write
   written-read = rw (written .front) (decode-encode c (fine .1))
+
+pub refused-status : (c : Case) (out : List ℕ) (r : Refusal) → write c out .outcome ≡ said (RefusedBy r) → writeStatus c (length out) ≡ Refused r
+unfolding write
+refused-status c out r e = filed-refusal (writeStatus c (length out)) (encode c) out r e
 
 -- ---- read, then written
 

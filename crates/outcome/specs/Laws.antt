@@ -1,6 +1,6 @@
 -- Laws of refusals and their numbers, of answers that cannot be both, and of checks in sequence.
 use mathlib.Core.Path.{_≡_, refl, sym, ap, _∙_}
-use mathlib.Core.Bool.{Bool, true, false}
+use mathlib.Core.Bool.{Bool, true, false, true≢false}
 use Prim.Native.Nat.{ℕ}
 use native.Mathlib.Omega.{arith}
 use Rattle.outcome.specs.declared.Refusal.{Refusal}
@@ -8,7 +8,7 @@ use Rattle.outcome.specs.declared.Refusal.the-variants.{BufferTooShort, 
 use Rattle.outcome.specs.declared.Outcome.the-variants.{Count, Refused as RefusedBy}
 use Rattle.outcome.specs.declared.Status.{Status}
 use Rattle.outcome.specs.declared.Status.the-variants.{Accepted, Refused}
-use Rattle.outcome.specs.Outcome.{numberOf, refusalOf, check, first}
+use Rattle.outcome.specs.Outcome.{numberOf, refusalOf, said, check, first}
 
 -- each refusal has a number of its own
 pub refusal-of-number : (r : Refusal) → refusalOf (numberOf r) ≡ r
@@ -27,8 +27,12 @@ refusal-of-number OutsideRange = refl
 pub not-both : {P : Type 0} (s : Status) (r : Refusal) → s ≡ Refused r → s ≡ Accepted → P
 not-both s r e g = let z : _≡_ {A = ℕ} 0 1 = cc in absurd (omega arith)
 
-pub no-count : {P : Type 0} (r : Refusal) (m : ℕ) → RefusedBy r ≡ Count m → P
-no-count r m e = let z : _≡_ {A = ℕ} 0 1 = cc in absurd (omega arith)
+pub no-count : {P : Type 0} (r : Refusal) (m : ℕ) → said (RefusedBy r) ≡ said (Count m) → P
+no-count r m e = absurd (true≢false (ap (λ s. s .refused) e))
+
+-- what is said tells the refusal
+pub same-refusal : (q r : Refusal) → said (RefusedBy q) ≡ said (RefusedBy r) → q ≡ r
+same-refusal q r e = sym (refusal-of-number q) ∙ ap (λ s. refusalOf (s .number)) e ∙ refusal-of-number r
 
 -- ---- checks
 

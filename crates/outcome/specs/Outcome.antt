@@ -49,6 +49,14 @@ abbrev pub outcomeNumber : Outcome → ℕ
 outcomeNumber (Count m) = m
 outcomeNumber (Refused r) = numberOf r
 
+-- an outcome as the paper has it, in which every promise of a call is made
+pub record Said : Type 0 where
+  pub refused : Bool
+  pub number : ℕ
+
+abbrev pub said : Outcome → Said
+said o = record { refused = refuses o; number = outcomeNumber o }
+
 -- a test, and the refusal where it fails
 abbrev pub check : Bool → Refusal → Status
 check true r = Accepted

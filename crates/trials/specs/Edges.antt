@@ -5,6 +5,7 @@ use Prim.Native.Nat.{ℕ}
 use lib.ListN.{replicate}
 use lib.IntN.{pos}
 use Rattle.outcome.specs.declared.Outcome.the-variants.{Count}
+use Rattle.outcome.specs.Outcome.{said}
 use Rattle.buffer.specs.Buffer.{onto}
 use Rattle.casefile.specs.Case.{Case, given}
 use Rattle.casefile.specs.Layout.{encode}
@@ -79,6 +80,6 @@ each-edge-refused e m = agree edgeOutcome edgeRefusal m edges-refused
 abbrev pub eightTanks : Case
 eightTanks = given 8 0 0 (replicate 64 (pos 0)) (replicate 64 0) (replicate 8 (pos 0)) (replicate 8 0) (replicate 8 (pos 0))
 
-pub eight-tanks : call (encode eightTanks) (lent longestRecord) .outcome ≡ Count 180
+pub eight-tanks : call (encode eightTanks) (lent longestRecord) .outcome ≡ said (Count 180)
 unfolding found
 eight-tanks = refl

@@ -12,9 +12,6 @@ use Rattle.fractions.specs.Greatest.{first-greatest}
 use Rattle.judge.specs.System.{residual, reach}
 use Rattle.judge.specs.Judgement.{first-not, first-unmet, deciding, judgement}
 use Rattle.judge.specs.Finding.{Finding, factor-num, factor-den}
-use Rattle.outcome.specs.declared.Outcome.{Outcome}
-use Rattle.outcome.specs.declared.Outcome.the-variants.{Count, Refused}
-use Rattle.outcome.specs.Outcome.{numberOf}
 use Rattle.bigendian.specs.Number.{be, bytes}
 use Rattle.figures.specs.Figures.{items, spread, all}
 use Rattle.fields.specs.Field.{field, fieldStatus}
@@ -78,12 +75,12 @@ pub data Result : Type 0 where
   recorded : ℕ → Figures → List ℕ → Result
   refused : ℕ → List ℕ → Result
 
-abbrev resultBy : ℕ → Outcome → List ℕ → Result
-resultBy n (Count m) buffer = recorded m (readOff n (take m buffer)) (drop m buffer)
-resultBy n (Refused r) buffer = refused (numberOf r) buffer
+abbrev resultBy : ℕ → Bool → ℕ → List ℕ → Result
+resultBy n false m buffer = recorded m (readOff n (take m buffer)) (drop m buffer)
+resultBy n true k buffer = refused k buffer
 
 abbrev pub resultOf : ℕ → Written → Result
-resultOf n w = resultBy n (w .outcome) (w .buffer)
+resultOf n w = resultBy n (w .outcome .refused) (w .outcome .number) (w .buffer)
 
 -- a result buffer of so many bytes, none of them a record's
 abbrev pub lent : ℕ → List ℕ

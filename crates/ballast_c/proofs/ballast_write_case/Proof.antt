@@ -16,7 +16,7 @@ same-length : tie.Need-same-length
 same-length c = search needs
 
 returns : tie.Need-returns
-returns c = written _ _ _ _ (c .before .before .before .write-case .ensures) _ (toZ-ofZ (record { sfits = c .result .ok }) ∙ c .result .ensures)
+returns c = written _ _ _ (c .before .before .before .write-case .result) (c .before .before .before .write-case .ensures) _ (toZ-ofZ (record { sfits = c .result .ok }) ∙ c .result .ensures)
 
 pub ballast-write-case-spec : {M : Type 1} → statement M
 ballast-write-case-spec =

@@ -23,22 +23,22 @@ module _ (k : tie.After-write-case) where
 slice-reshare-prefix-read-case : tie.Need-slice-reshare-prefix-read-case
 slice-reshare-prefix-read-case c =
     let k = c .before .before .before .before .before in
-    omega (arith, fits (case k) (now (start k .args .out)) (k .write-case .ensures) _ (c .before .written .given .1))
+    omega (arith, fits (case k) (now (start k .args .out)) (k .write-case .result) (k .write-case .ensures) _ (c .before .written .given .1))
 
 returns : tie.Need-returns
 returns c =
     let k = c .before .before .before .before .before .before .before in
-    is-read (case k) (now (start k .args .out)) (k .write-case .ensures) _ (c .before .before .before .written .given .1) _ (c .read-case .ensures)
+    is-read (case k) (now (start k .args .out)) (k .write-case .result) (k .write-case .ensures) _ (c .before .before .before .written .given .1) _ (c .read-case .ensures)
 
 returns-2 : tie.Need-returns-2
 returns-2 c =
     let k = c .before .before .before .before .before .before in
-    is-refused (case k) (now (start k .args .out)) (k .write-case .ensures) _ (c .before .before .written2 .given .1) _ (c .refused .ensures)
+    is-refused (case k) (now (start k .args .out)) (k .write-case .result) (k .write-case .ensures) _ (c .before .before .written2 .given .1) _ (c .refused .ensures)
 
 slice-aggregate-read-case : tie.Need-slice-aggregate-read-case
 slice-aggregate-read-case c =
     let k = c .before .before .before .before .before .before in
-    sym (length-take-le _ _ (omega (arith, fits (case k) (now (start k .args .out)) (k .write-case .ensures) _ (c .before .before .written .given .1))))
+    sym (length-take-le _ _ (omega (arith, fits (case k) (now (start k .args .out)) (k .write-case .result) (k .write-case .ensures) _ (c .before .before .written .given .1))))
 
 pub write-and-read-spec : {M : Type 1} → statement M
 write-and-read-spec =
