@@ -8,23 +8,22 @@ use lib.ListN.{length, length-append}
 use lib.IntN.{ℤ}
 use Rattle.buffer.specs.Buffer.{onto, joined}
 use Rattle.buffer.specs.Laws.{part, put, then}
-use Rattle.figures.specs.Figures.{i32, spread}
+use Rattle.figures.specs.Figures.{spread}
 use Rattle.figures.specs.FigureLaws.{length-spread}
 use Rattle.fields.specs.Field.{headerSize, header, field, endField}
-use Rattle.fields.specs.FieldLaws.{length-header, length-field, field-is-header}
+use Rattle.fields.specs.FieldLaws.{length-field, field-written}
 use Rattle.casefile.specs.Case.{Case}
-use Rattle.casefile.specs.Layout.{headTag, headValue, rowsAt, rowsEnd, trialTag, trialLength, trialSize, rowField, rowsIn, encode}
+use Rattle.casefile.specs.Layout.{headTag, headValue, rowsAt, rowsEnd, trialTag, trialKind, trialLength, trialSize, rowField, rowsIn, encode}
 use Rattle.casefile.specs.TailLaws.{trialBytes, length-trial}
 use Rattle.casefile.specs.CaseLaws.{Good, encode-is, length-rows-in}
 
 pub trial-written : (out : List ℕ) (len : ℕ) (y : List ℤ) (x0 y1 : List ℕ) → len ≡ trialLength (length y)
     → x0 ≡ onto (header trialTag len) out
-    → y1 ≡ onto (spread i32 y) (part x0 headerSize)
+    → y1 ≡ onto (spread trialKind y) (part x0 headerSize)
     → put x0 headerSize y1 ≡ onto (trialBytes 0 y) out
 trial-written out len y x0 y1 el e0 e1 =
-    let v : List ℕ = spread i32 y in
-    then out x0 (header trialTag len) v headerSize y1 e0 (length-header trialTag len) e1
-    ∙ ap (λ (d : List ℕ). onto d out) (field-is-header trialTag v len (length-spread i32 y ∙ sym el) ∙ sym (append-nil (field trialTag v)))
+    let v : List ℕ = spread trialKind y in
+    field-written trialTag len v out x0 (length-spread trialKind y ∙ sym el) e0 e1 ∙ ap (λ (d : List ℕ). onto d out) (sym (append-nil (field trialTag v)))
 
 pub no-trial : (out : List ℕ) (k : ℕ) (y : List ℤ) → (k ≡ 0 → ⊥) → out ≡ onto (trialBytes k y) out
 no-trial out zero y h = absurd (h refl)

@@ -1,4 +1,4 @@
--- What the writer's inner functions ask: room in the buffer, and lists that have the counts due.
+-- What the writer's inner functions ask: room in the buffer, n, e and K within their limits, and a trial that has the count due.
 use mathlib.Core.Path.{_≡_}
 use mathlib.Core.List.{List}
 use Prim.Native.Nat.{ℕ, _≤_}

@@ -274,3 +274,7 @@ pub longest : (c : Case) → caseStatus c ≡ Accepted → length (encode c) ≤
 longest c e =
     let g = good c e in
     omega (arith, length-encode c g, rows-fit (c .n) (g .small), brought-most (c .rounds) (headerSize + trialLength (c .n)))
+
+-- document 01: "at most 389 bytes .., which is enough to refuse a longer one". What is read as a case is no longer than the longest
+pub accepted-length : (s : List ℕ) (c : Case) → Bytes s → decode s ≡ accepted c → length s ≤ longestCase
+accepted-length s c bs e = rw (encode-decode s c bs e) at (longest c (decode-fine s c e))

@@ -1,4 +1,5 @@
--- What reading bytes as a case gives: the first refusal in document 01's order ("fields are taken from the front, and at each field 2 to 6 in turn"), or the case.
+-- What reading bytes as a case gives: the first refusal in document 01's order ("fields are taken from the front, and at each field 2 to 6 in turn"), or the case; and the case
+-- as the program holds it.
 use Prim.Native.Nat.{ℕ, zero, suc, _*_}
 use mathlib.Core.Bool.{Bool}
 use mathlib.Core.List.{List, []}

@@ -66,7 +66,7 @@ abbrev pub trialKind : Kind ℤ
 trialKind = i32
 
 abbrev pub trialLength : ℕ → ℕ
-trialLength n = 4 * n
+trialLength n = trialKind .width * n
 
 abbrev pub trialSize : ℕ → ℕ → ℕ
 trialSize k n = whereBrought k (headerSize + trialLength n) 0

@@ -1,4 +1,4 @@
-// A case as the program holds it, and the limits of its figures. What a case is in bytes, and the laws of that, stand in specs/.
+// A case as the program holds it, the limits of its figures, and the tags, lengths and places of its fields in bytes.
 ghost use mathlib.Core.Path.{_≡_};
 ghost use Prim.Native.Nat.{_≤_};
 ghost use Rattle.casefile.specs.Case.{mostTanks, headFine, trialCount};

@@ -1,4 +1,5 @@
--- The three loops over a run of figures, each once for every kind: reading with a test, testing, writing. What is left, done from here, gives the whole.
+-- The loops over a run of figures, once for every kind: reading with a test, testing, writing; and, behind the first, reading items of one width, figures
+-- or rows: what is left, read on from here, gives the whole.
 -- Assumes nothing.
 use mathlib.Core.Path.{_≡_, refl, sym, _∙_}
 use mathlib.Core.List.{List, [], _∷_, _++_, append-nil}

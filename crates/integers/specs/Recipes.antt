@@ -1,4 +1,4 @@
--- How to use the laws of this crate, by examples that are checked. Nothing is exported. Assumes nothing.
+-- How to use the laws of this crate, by examples that are checked. Nothing here is for use. Assumes nothing.
 use mathlib.Core.Path.{_≡_, refl, _∙_}
 use mathlib.Core.List.{[], _∷_}
 use Prim.Native.Nat.{ℕ, _+_, _*_, _^_, _≤_, _<_}

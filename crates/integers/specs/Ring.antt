@@ -1,5 +1,5 @@
 -- The laws of the ring ℤ that `lib.IntN` lacks. Those that it has: `+ℤ-assoc`, `+ℤ-comm`, `+ℤ-idl`, `+ℤ-idr`, `+ℤ-invl`, `+ℤ-invr`, `negℤ-negℤ`,
--- `negℤ-+ℤ`, `+ℤ-negℤ-cancel`, `-ℤ-+ℤ-cancel`, `zero-*ℤ`, `*ℤ-zero`, `*ℤ-comm`. Each is one call of `ring`. Assumes nothing.
+-- `negℤ-+ℤ`, `+ℤ-negℤ-cancel`, `-ℤ-+ℤ-cancel`, `zero-*ℤ`, `*ℤ-zero`, `*ℤ-comm`. Those of products are one call of `ring` each. Assumes nothing.
 use mathlib.Core.Path.{_≡_, ap}
 use mathlib.Core.List.{[], _∷_}
 use Prim.Native.Nat.{ℕ, _-_, _≤_}

@@ -1,8 +1,7 @@
 -- Eight places that a loop writes again from the front, where those past the last row hold 0. Assumes nothing.
 use mathlib.Core.Path.{_≡_, refl, sym, ap₂, _∙_}
 use mathlib.Core.List.{List}
-use Prim.Native.Nat.{ℕ, _+_, _*_, _<_, _≤_}
-use native.Mathlib.Nat.{mul-le-mul}
+use Prim.Native.Nat.{ℕ, _+_, _<_, _≤_}
 use native.Mathlib.Omega.{arith}
 use native.Mathlib.Decide.{decLt}
 use borrow.Author.Tests.{lt-ltb, le-ltb}
@@ -14,10 +13,6 @@ use Rattle.integers.specs.Tables.{table, filled, until, fill, length-table, get
 pub record Cleared {X : Type 0} (n : ℕ) (z : X) (l : List X) : Type 0 where
   pub eight : length l ≡ 8
   pub past : (k : ℕ) → n ≤ k → getD l k z ≡ z
-
--- row i's part of n rows that stand row after row ends within eight times eight places
-pub row-inside : (n i : ℕ) → n ≤ 8 → i < n → i * n + n ≤ 64
-row-inside n i h k = omega (arith, mul-le-mul {n₁ = i + 1} {n₂ = 8} {m₂ = 8} (omega arith) h)
 
 module _ {X : Type 0} (z : X) where
   pub zero-cleared : (n : ℕ) → Cleared n z (table 8 (λ _. z))

@@ -1,4 +1,4 @@
--- Laws of refusals and their numbers, of answers that cannot be both, and of checks in sequence.
+-- Laws of refusals and their numbers, of answers that cannot be both, and of checks in sequence. Assumes nothing.
 use mathlib.Core.Path.{_≡_, refl, sym, ap, _∙_}
 use mathlib.Core.Bool.{Bool, true, false, true≢false}
 use Prim.Native.Nat.{ℕ}

@@ -41,7 +41,21 @@ rowsLength n = pairSize * n
 abbrev pub factorLength : ℕ
 factorLength = 2
 
--- where the fields begin: the first at 0, each other one behind the one before it
+-- where a row's reach stands in its pair
+abbrev pub reachAt : ℕ
+reachAt = 8
+
+-- where the parts of field 10 stand, which begins at 0
+abbrev pub metAt : ℕ
+metAt = headerSize
+
+abbrev pub unmetAt : ℕ
+unmetAt = metAt + 1
+
+abbrev pub roundsAt : ℕ
+roundsAt = unmetAt + 1
+
+-- where the other fields begin, each behind the one before it
 abbrev pub answerAt : ℕ
 answerAt = headerSize + verdictLength
 
@@ -53,6 +67,13 @@ factorAt n = rowsAt n + headerSize + rowsLength n
 
 abbrev pub endAt : ℕ → ℕ
 endAt n = factorAt n + headerSize + factorLength
+
+-- where the parts of field 13 stand
+abbrev pub noneAt : ℕ → ℕ
+noneAt n = factorAt n + headerSize
+
+abbrev pub decidesAt : ℕ → ℕ
+decidesAt n = noneAt n + 1
 
 abbrev pub flag : Bool → ℕ
 flag true = 1

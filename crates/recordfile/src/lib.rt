@@ -30,12 +30,15 @@ const NONE_AT: usize = HEADER_SIZE;
 
 const DECIDES_AT: usize = HEADER_SIZE + 1;
 
+// How long a row's pair is, and where its reach stands in it.
+const PAIR_SIZE: usize = 16;
+
+const REACH_AT: usize = 8;
+
 // Lengths of values.
 const VERDICT_LENGTH: u16 = 3;
 
 const FACTOR_LENGTH: u16 = 2;
-
-const PAIR_SIZE: usize = 16;
 
 fn answer_length(n: usize) -> usize
     requires { ⌜ n ≤ 8 ⌝ }
@@ -99,7 +102,7 @@ fn write_pair(out: &mut [u8], residual: i64, reach: u64)
     ensures { λ _. ⌜ now (out .exit) ≡ onto (pair residual reach) (now (out .entry)) ⌝ }
 {
     bigendian::write_i64(out, residual);
-    bigendian::write_u64(&mut out[8..], reach);
+    bigendian::write_u64(&mut out[REACH_AT..], reach);
 }
 
 // The pairs of n rows, each lent its part of out.
@@ -174,5 +177,5 @@ pub fn write_record(
     write_judged(out, n, rounds, answer, judgement);
     let end = end_at(n);
     fields::write_end(&mut out[end..]);
-    end + HEADER_SIZE
+    end + fields::END_SIZE
 }

@@ -1,4 +1,5 @@
--- Lines that a loop writes one after another, each of at most `limit` bytes: what a turn and the end give, once for every kind of line. Assumes nothing.
+-- Lines that a loop writes one after another, each of at most `limit` bytes: what a turn and the end give, once for every kind of line;
+-- and what is printed over a buffer's front, or not at all. Assumes nothing.
 use mathlib.Core.Path.{refl, _∙_}
 use mathlib.Core.List.{List, []}
 use Prim.Native.Nat.{ℕ, _+_, _*_, _≤_, _<_}

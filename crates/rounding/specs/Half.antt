@@ -1,5 +1,6 @@
--- The rule for halves: "a half goes away from zero, on both sides of zero". It stands here alone, on magnitudes. Nothing outside this file and
--- the proof of the code's own test unfolds it: all laws of rounding rest on the last two laws of this file. Assumes nothing.
+-- The rule for halves: "a half goes away from zero, on both sides of zero". It stands here alone, on magnitudes. No law outside this file unfolds it,
+-- but for examples that compute: those of a nearest whole number rest on `up-half` and `stays-half`, that of the scale on `half-carries`.
+-- Assumes nothing.
 use mathlib.Core.Path.{_≡_, refl}
 use mathlib.Core.Bool.{Bool, true, false, cond}
 use Prim.Native.Nat.{ℕ, _+_, _*_, _-_, _/_, _%_, _≤_}

@@ -1,4 +1,4 @@
--- What a caller may use of `rnd`. All of it rests on the two laws of the rule for halves, and none of it on the rule. Assumes nothing.
+-- What a caller may use of `rnd`. All of it rests on the laws beside the rule for halves (`rounding/Half`), and none of it on the rule. Assumes nothing.
 use mathlib.Core.Path.{_≡_, refl, sym, ap, _∙_}
 use mathlib.Core.Bool.{Bool, true, false, cond}
 use Prim.Native.Nat.{ℕ, zero, suc, _+_, _*_, _/_, _%_, _^_, _<_, _≤_}

@@ -13,7 +13,7 @@ use Rattle.buffer.specs.Laws.{part, put, then}
 use Rattle.buffer.specs.RunLaws.{joined-append, Running, run-begun, run-next, run-turn-lent, run-ended}
 use Rattle.figures.specs.Figures.{i16, u16, i32, u32, spread}
 use Rattle.figures.specs.FigureLaws.{length-spread}
-use Rattle.fields.specs.Field.{header}
+use Rattle.fields.specs.Field.{headerSize, header}
 use Rattle.fields.specs.FieldLaws.{length-header, field-is-header}
 use Rattle.casefile.specs.Layout.{rowTag, rowLength, rowSize, tolerancesAt, rightSideAt, rightToleranceAt, Row, rowMade, RowLists, RowsRoom, rowBytes, rowField, split}
 use Rattle.casefile.specs.RowLaws.{length-row, length-row-field}
@@ -34,24 +34,24 @@ module _ (out : List ℕ) (a : List ℤ) (t : List ℕ) (b : List ℤ) (f : List
 
   pub row-written : (len p1 p2 p3 : ℕ) (x0 y1 y2 y3 y4 : List ℕ) → len ≡ rowLength n → p1 ≡ tolerancesAt n → p2 ≡ rightSideAt n → p3 ≡ rightToleranceAt n
       → x0 ≡ onto (header rowTag len) out
-      → y1 ≡ onto (spread i16 a) (part x0 3)
-      → y2 ≡ onto (spread u16 t) (part (put x0 3 y1) (3 + p1))
-      → y3 ≡ onto (spread i32 b) (part (put (put x0 3 y1) (3 + p1) y2) (3 + p2))
-      → y4 ≡ onto (spread u32 f) (part (put (put (put x0 3 y1) (3 + p1) y2) (3 + p2) y3) (3 + p3))
-      → put (put (put (put x0 3 y1) (3 + p1) y2) (3 + p2) y3) (3 + p3) y4 ≡ onto (rowField (rowMade a t b f)) out
+      → y1 ≡ onto (spread i16 a) (part x0 headerSize)
+      → y2 ≡ onto (spread u16 t) (part (put x0 headerSize y1) (headerSize + p1))
+      → y3 ≡ onto (spread i32 b) (part (put (put x0 headerSize y1) (headerSize + p1) y2) (headerSize + p2))
+      → y4 ≡ onto (spread u32 f) (part (put (put (put x0 headerSize y1) (headerSize + p1) y2) (headerSize + p2) y3) (headerSize + p3))
+      → put (put (put (put x0 headerSize y1) (headerSize + p1) y2) (headerSize + p2) y3) (headerSize + p3) y4 ≡ onto (rowField (rowMade a t b f)) out
   row-written len p1 p2 p3 x0 y1 y2 y3 y4 e g1 g2 g3 e0 e1 e2 e3 e4 =
       let D0 : List ℕ = header rowTag len in
       let D1 : List ℕ = D0 ++ spread i16 a in
       let D2 : List ℕ = D1 ++ spread u16 t in
       let D3 : List ℕ = D2 ++ spread i32 b in
-      let l0 : length D0 ≡ 3 = length-header rowTag len in
-      let l1 : length D1 ≡ 3 + p1 = length-append D0 (spread i16 a) ∙ omega (arith, length-spread i16 a) in
-      let l2 : length D2 ≡ 3 + p2 = length-append D1 (spread u16 t) ∙ omega (arith, length-spread u16 t, r .lt) in
-      let l3 : length D3 ≡ 3 + p3 = length-append D2 (spread i32 b) ∙ omega (arith, length-spread i32 b, r .lb) in
-      let w1 = then out x0 D0 (spread i16 a) 3 y1 e0 l0 e1 in
-      let w2 = then out _ D1 (spread u16 t) (3 + p1) y2 w1 l1 e2 in
-      let w3 = then out _ D2 (spread i32 b) (3 + p2) y3 w2 l2 e3 in
-      let w4 = then out _ D3 (spread u32 f) (3 + p3) y4 w3 l3 e4 in
+      let l0 : length D0 ≡ headerSize = length-header rowTag len in
+      let l1 : length D1 ≡ headerSize + p1 = length-append D0 (spread i16 a) ∙ omega (arith, length-spread i16 a) in
+      let l2 : length D2 ≡ headerSize + p2 = length-append D1 (spread u16 t) ∙ omega (arith, length-spread u16 t, r .lt) in
+      let l3 : length D3 ≡ headerSize + p3 = length-append D2 (spread i32 b) ∙ omega (arith, length-spread i32 b, r .lb) in
+      let w1 = then out x0 D0 (spread i16 a) headerSize y1 e0 l0 e1 in
+      let w2 = then out _ D1 (spread u16 t) (headerSize + p1) y2 w1 l1 e2 in
+      let w3 = then out _ D2 (spread i32 b) (headerSize + p2) y3 w2 l2 e3 in
+      let w4 = then out _ D3 (spread u32 f) (headerSize + p3) y4 w3 l3 e4 in
       w4 ∙ ap (λ (d : List ℕ). onto d out) (row-joined a t b f len e (r .lt) (r .lb) (r .lf))
 
 -- ---- the rows so far

@@ -12,7 +12,12 @@ use Rattle.casefile.specs.Layout.{encode}
 use Rattle.casefile.specs.Write.{leaves}
 use Rattle.casefile.specs.Examples.{printedBytes, nineTanks, leastCoefficient}
 use Rattle.recordfile.specs.Layout.{longestRecord}
-use Rattle.ballast.specs.Call.{call}
+use Rattle.decimal.specs.Buffer.{ascii}
+use Rattle.decimal.specs.Decimal.{digits-within, digits, last-digits, signed, fixed-point}
+use Rattle.report.specs.Text.{text-room, text, printed as rendered, verdict-line, answer-line, row-line, factor-line}
+use Rattle.verdict_text.specs.Verdict.{verdict-of}
+use Rattle.casefile.specs.Decode.{decode}
+use Rattle.ballast.specs.Call.{answer-of, call}
 use Rattle.trials.specs.Result.{Result, refused, resultOf, lent, found}
 use Rattle.trials.specs.Trials.{printed}
 use Rattle.trials.specs.Statement.{agree}
@@ -36,6 +41,12 @@ printed-case = refl
 pub printed-record : call printedBytes (lent longestRecord) ≡ leaves (Count 40) (onto printedRecord (lent longestRecord))
 unfolding found
 printed-record = refl
+
+-- "For the case .. it prints"
+pub printed-text : verdict-of text-room (answer-of (decode printedBytes))
+    ≡ ascii "met row 0 rounds 1\nanswer 1 -0.4\nrow 1 residual 0 reach 0\nfactor row 1\n"
+unfolding found verdict-of rendered text verdict-line answer-line row-line factor-line fixed-point signed digits digits-within last-digits
+printed-text = refl
 
 -- ---- refusals of bytes
 

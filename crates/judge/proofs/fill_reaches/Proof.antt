@@ -6,7 +6,8 @@ use native.Mathlib.Omega.{arith}
 use lib.IntN.{ℤ}
 use borrow.Author.Needs.{needs}
 use Rattle.judge.specs.System.{reach, system, row, trial as trialOf}
-use Rattle.judge.specs.Places.{Rewriting, row-inside, rewriting-begun, rewriting-turn, rewriting-ended}
+use Rattle.integers.specs.Tables.{row-inside}
+use Rattle.judge.specs.Places.{Rewriting, rewriting-begun, rewriting-turn, rewriting-ended}
 use Rattle.judge.proofs.fill_reaches.Statement.{statement}
 use Rattle.judge.proofs.fill_reaches.Tie as tie
 

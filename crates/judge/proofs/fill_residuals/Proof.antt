@@ -11,7 +11,8 @@ use mir.Val.{SFits}
 use mir.Facts.{toZ-ofZ}
 use borrow.Author.Needs.{needs}
 use Rattle.judge.specs.System.{residual, system, row, trial as trialOf}
-use Rattle.judge.specs.Places.{Rewriting, row-inside, rewriting-begun, rewriting-turn, rewriting-ended}
+use Rattle.integers.specs.Tables.{row-inside}
+use Rattle.judge.specs.Places.{Rewriting, rewriting-begun, rewriting-turn, rewriting-ended}
 use Rattle.judge.proofs.fill_residuals.Statement.{statement}
 use Rattle.judge.proofs.fill_residuals.Tie as tie
 

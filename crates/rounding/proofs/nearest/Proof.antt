@@ -1,7 +1,7 @@
 -- `rounding::nearest` meets its contract. Where the quotient goes up, the divisor is at least 2, so that the next number fits.
 -- Assumes nothing.
 use mathlib.Core.Path.{sym, _∙_}
-use Prim.Native.Nat.{ℕ, _+_, _/_, _%_, _<_, _≤_, _^_}
+use Prim.Native.Nat.{_/_, _%_, _≤_}
 use native.Mathlib.Nat.{mod-lt, div-add-mod', mul-le-mul-left}
 use native.Mathlib.Omega.{arith}
 use borrow.Author.Needs.{needs}
@@ -19,14 +19,12 @@ rem-r c = search needs
 rounds-up-requires : tie.Need-rounds-up-requires
 rounds-up-requires c κs = mod-lt (c .args .a) (c .pre)
 
-next-fits : (a b : ℕ) → a < 2 ^ 64 → 2 ≤ b → a / b + 1 < 2 ^ 64
-next-fits a b h k = omega (arith, div-add-mod' a b, mul-le-mul-left (a / b) k)
-
 add-result : tie.Need-add-result
 add-result c =
     let g = c .before .before in
     let h = up-half (g .args .a / g .args .b) (g .args .a % g .args .b) (g .args .b) (sym (c .before .rounds-up .ensures) ∙ c .if1 .taken) in
-    record { fits = next-fits (g .args .a) (g .args .b) (g .fits .a .fits) (omega (arith, mod-lt (g .args .a) (g .pre))) }
+    let two : 2 ≤ g .args .b = omega (arith, mod-lt (g .args .a) (g .pre)) in
+    record { fits = omega (arith, g .fits .a .fits, div-add-mod' (g .args .a) (g .args .b), mul-le-mul-left (g .args .a / g .args .b) two) }
 
 returns : tie.Need-returns
 returns c =
