@@ -66,13 +66,21 @@ static void check_judging(void)
     int64_t length = write_one_tank(input, sizeof input);
     uint8_t *out = fresh();
     expect(ballast_judge_case(input, (size_t)length, out, BALLAST_RECORD_ROOM - 1) == BALLAST_BUFFER_TOO_SHORT, "a buffer of 179 bytes is refused");
-    expect(ballast_judge_case(NULL, 0, NULL, 0) == BALLAST_BUFFER_TOO_SHORT, "the buffer is checked first");
     expect(ballast_judge_case(NULL, 0, out, ROOM) == BALLAST_FIELD_MISSING, "an empty input is refused");
     expect(ballast_judge_case(input, (size_t)length - 1, out, ROOM) == BALLAST_FIELD_MISSING, "a cut case is refused");
     expect(untouched(out, 0), "a refused judging changes no byte");
     expect(ballast_judge_case(input, (size_t)length, out, BALLAST_RECORD_ROOM) == sizeof record, "the record has 40 bytes");
     expect(memcmp(out, record, sizeof record) == 0, "the record of document 01");
     expect(untouched(out, sizeof record), "bytes beyond the record stay");
+}
+
+static void check_nothing(void)
+{
+    expect(ballast_check_case(NULL, 0) == BALLAST_FIELD_MISSING, "no input is refused by reading");
+    expect(ballast_judge_case(NULL, 0, NULL, 0) == BALLAST_BUFFER_TOO_SHORT, "no buffer is refused by judging");
+    expect(ballast_verdict_text(NULL, 0, NULL, 0) == BALLAST_BUFFER_TOO_SHORT, "no buffer is refused by printing");
+    expect(ballast_write_case(1, 0, 1, NULL, 0, NULL, 0, NULL, 0, NULL, 0, NULL, 0, NULL, 0) == BALLAST_BUFFER_TOO_SHORT,
+           "no buffer is refused by writing");
 }
 
 static size_t read_file(const char *name, uint8_t *into, size_t room)
@@ -103,6 +111,7 @@ int main(int count, char **names)
 {
     check_writing();
     check_judging();
+    check_nothing();
     for (int i = 1; i + 1 < count; i += 2)
         check_sample(names[i], names[i + 1]);
     printf("check: %d samples, %d failures\n", (count - 1) / 2, failures);
