@@ -9,6 +9,13 @@ ghost use mir.Val.{toZ, ofZ, bits};
 ghost use Rattle.bigendian.specs.Number.{be, bytes};
 ghost use Rattle.buffer.specs.Buffer.{onto};
 
+// The highest numbers of the widths.
+const HIGHEST_16: u64 = 65535;
+
+const HIGHEST_32: u64 = 4294967295;
+
+const HIGHEST_64: u64 = 18446744073709551615;
+
 fn byte(s: &[u8], at: usize) -> u16
     requires { ⌜ at < length (now s) ⌝ }
     ensures { λ r. ⌜ r ≡ be (take 1 (drop at (now (s .entry)))) ⌝ }
@@ -58,21 +65,21 @@ pub fn read_i16(s: &[u8], at: usize) -> i16
     requires { ⌜ at + 2 ≤ length (now s) ⌝ }
     ensures { λ r. ⌜ r ≡ toZ w16 (be (take 2 (drop at (now (s .entry))))) ⌝ }
 {
-    signed_of(read_u16(s, at) as u64, 65535) as i16
+    signed_of(read_u16(s, at) as u64, HIGHEST_16) as i16
 }
 
 pub fn read_i32(s: &[u8], at: usize) -> i32
     requires { ⌜ at + 4 ≤ length (now s) ⌝ }
     ensures { λ r. ⌜ r ≡ toZ w32 (be (take 4 (drop at (now (s .entry))))) ⌝ }
 {
-    signed_of(read_u32(s, at) as u64, 4294967295) as i32
+    signed_of(read_u32(s, at) as u64, HIGHEST_32) as i32
 }
 
 pub fn read_i64(s: &[u8], at: usize) -> i64
     requires { ⌜ at + 8 ≤ length (now s) ⌝ }
     ensures { λ r. ⌜ r ≡ toZ w64 (be (take 8 (drop at (now (s .entry))))) ⌝ }
 {
-    signed_of(read_u64(s, at), 18446744073709551615)
+    signed_of(read_u64(s, at), HIGHEST_64)
 }
 
 pub fn write_u16(out: &mut [u8], x: u16)
@@ -115,19 +122,19 @@ pub fn write_i16(out: &mut [u8], z: i16)
     requires { ⌜ 2 ≤ length (now out) ⌝ }
     ensures { λ _. ⌜ now (out .exit) ≡ onto (bytes 2 (ofZ w16 z)) (now (out .entry)) ⌝ }
 {
-    write_u16(out, bits_of(z as i64, 65535) as u16);
+    write_u16(out, bits_of(z as i64, HIGHEST_16) as u16);
 }
 
 pub fn write_i32(out: &mut [u8], z: i32)
     requires { ⌜ 4 ≤ length (now out) ⌝ }
     ensures { λ _. ⌜ now (out .exit) ≡ onto (bytes 4 (ofZ w32 z)) (now (out .entry)) ⌝ }
 {
-    write_u32(out, bits_of(z as i64, 4294967295) as u32);
+    write_u32(out, bits_of(z as i64, HIGHEST_32) as u32);
 }
 
 pub fn write_i64(out: &mut [u8], z: i64)
     requires { ⌜ 8 ≤ length (now out) ⌝ }
     ensures { λ _. ⌜ now (out .exit) ≡ onto (bytes 8 (ofZ w64 z)) (now (out .entry)) ⌝ }
 {
-    write_u64(out, bits_of(z, 18446744073709551615));
+    write_u64(out, bits_of(z, HIGHEST_64));
 }

@@ -13,8 +13,8 @@ use Rattle.figures.specs.FigureLaws.{length-spread}
 use Rattle.fields.specs.Field.{headerSize, header, field, endField}
 use Rattle.fields.specs.FieldLaws.{length-field, field-written}
 use Rattle.casefile.specs.Case.{Case}
-use Rattle.casefile.specs.Layout.{headTag, headValue, rowsAt, rowsEnd, trialTag, trialKind, trialLength, trialSize, rowField, rowsIn, encode}
-use Rattle.casefile.specs.TailLaws.{trialBytes, length-trial}
+use Rattle.casefile.specs.Layout.{headTag, headValue, rowsAt, rowsEnd, trialTag, trialKind, trialLength, trialSize, rowField, rowsIn, trialBytes, encode}
+use Rattle.casefile.specs.TailLaws.{length-trial}
 use Rattle.casefile.specs.CaseLaws.{Good, encode-is, length-rows-in}
 
 pub trial-written : (out : List ℕ) (len : ℕ) (y : List ℤ) (x0 y1 : List ℕ) → len ≡ trialLength (length y)

@@ -4,9 +4,8 @@ use mathlib.Core.List.{List}
 use Prim.Native.Nat.{ℕ, _≤_}
 use lib.ListN.{length}
 use lib.IntN.{ℤ}
-use Rattle.casefile.specs.Case.{mostTanks, trialCount}
+use Rattle.casefile.specs.Case.{mostTanks, HeadSmall, trialCount}
 use Rattle.casefile.specs.Layout.{rowsAt, trialSize}
-use Rattle.casefile.specs.CaseLaws.{HeadSmall}
 
 pub record HeadRoom (out : List ℕ) (n exponent rounds : ℕ) : Type 0 where
   pub room : rowsAt ≤ length out

@@ -1,5 +1,5 @@
 -- A case, its limits, and which cases a writer takes.
-use Prim.Native.Nat.{ℕ, zero, suc, _*_}
+use Prim.Native.Nat.{ℕ, zero, suc, _*_, _≤_}
 use mathlib.Core.Bool.{Bool, _&&_}
 use mathlib.Core.List.{List}
 use lib.ListN.{length}
@@ -65,6 +65,13 @@ given n exponent rounds a t b f y =
 
 abbrev pub headFine : ℕ → ℕ → ℕ → Bool
 headFine n exponent rounds = leb 1 n && (leb n mostTanks && (leb exponent mostExponent && leb rounds mostRounds))
+
+-- the same as what it says
+pub record HeadSmall (n exponent rounds : ℕ) : Type 0 where
+  pub least : 1 ≤ n
+  pub small : n ≤ mostTanks
+  pub exponent-small : exponent ≤ mostExponent
+  pub rounds-small : rounds ≤ mostRounds
 
 -- "K: .. 0 means that the case brings its trial": what holds there, and what where K is above 0
 abbrev pub whereBrought : {X : Type 0} → ℕ → X → X → X

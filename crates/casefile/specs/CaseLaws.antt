@@ -23,20 +23,14 @@ use Rattle.figures.specs.Figures.{upTo, within, all}
 use Rattle.figures.specs.FigureLaws.{and-true, length-items}
 use Rattle.fields.specs.Field.{headerSize, field, endTag, endSize, endField, valueOf, afterField, fieldStatus}
 use Rattle.fields.specs.FieldLaws.{length-field, field-accepted, field-room, field-is}
-use Rattle.casefile.specs.Case.{Case, mostTanks, mostExponent, mostRounds, coefficientLimit, toleranceLimit, rightSideLimit, rightToleranceLimit, trialLimit, headFine, trialCount, counted, listsFine, figuresFine, caseStatus}
-use Rattle.casefile.specs.Layout.{headTag, headLength, headValue, nAt, exponentAt, roundsAt, rowsAt, rowSize, rowsEnd, longestCase, rowField, rowsIn, trialLength, trialSize, trialFields, encode}
+use Rattle.casefile.specs.Case.{Case, mostTanks, mostExponent, mostRounds, coefficientLimit, toleranceLimit, rightSideLimit, rightToleranceLimit, trialLimit, headFine, HeadSmall, trialCount, counted, listsFine, figuresFine, caseStatus}
+use Rattle.casefile.specs.Layout.{headTag, headLength, headValue, nAt, exponentAt, roundsAt, rowsAt, rowSize, rowsEnd, longestCase, rowField, rowsIn, trialLength, trialSize, trialFields, trialBytes, encode}
 use Rattle.casefile.specs.Decode.{headTanks, headExponent, headRounds, headStatus, rowsStatus, rowsOf, trialStatus, afterTrial, endStatus, tailOf, inputStatus, caseOf, accepted, decoded, decode}
 use Rattle.casefile.specs.RowLaws.{lists-fine}
 use Rattle.casefile.specs.RowsLaws.{Rows, rows-back, rows-sound, rows-same, joined-length, joined-fine, length-row-fields, rows-after, rows-fit, Lists, split-sound, length-split, joined-split, split-joined}
-use Rattle.casefile.specs.TailLaws.{brought-most, trialBytes, length-trial, trial-back, trial-read, trial-same, end-back, end-same}
+use Rattle.casefile.specs.TailLaws.{brought-most, length-trial, trial-back, trial-read, trial-same, end-back, end-same}
 
 -- ---- what a head that is not refused has
-
-pub record HeadSmall (n exponent rounds : ℕ) : Type 0 where
-  pub least : 1 ≤ n
-  pub small : n ≤ mostTanks
-  pub exponent-small : exponent ≤ mostExponent
-  pub rounds-small : rounds ≤ mostRounds
 
 pub head-small : (n exponent rounds : ℕ) → headFine n exponent rounds ≡ true → HeadSmall n exponent rounds
 head-small n exponent rounds h =

@@ -127,6 +127,10 @@ rowsIn c = split (c .n) (c .n) (c .coefficients) (c .tolerances) (c .right-sides
 abbrev pub trialFields : ℕ → List ℤ → List (List ℕ)
 trialFields k y = whereBrought k (field trialTag (spread trialKind y) ∷ []) []
 
+-- the bytes of the trial's field, or none
+abbrev pub trialBytes : ℕ → List ℤ → List ℕ
+trialBytes k y = joined (λ f. f) (trialFields k y)
+
 -- "A case is, in this order"
 abbrev pub fieldsOf : Case → List (List ℕ)
 fieldsOf c =

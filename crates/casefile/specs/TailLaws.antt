@@ -15,13 +15,12 @@ use Rattle.outcome.specs.declared.Status.the-variants.{Accepted}
 use Rattle.outcome.specs.Laws.{first-accepted, first-check}
 use Rattle.bigendian.specs.Number.{be, bytes}
 use Rattle.bigendian.specs.NumberLaws.{Bytes, bytes-drop}
-use Rattle.buffer.specs.Buffer.{joined}
 use Rattle.figures.specs.Figures.{within, figures, spread, all}
 use Rattle.figures.specs.FigureLaws.{length-items, length-spread, figures-spread, spread-figures}
 use Rattle.fields.specs.Field.{headerSize, field, endTag, endLength, endSize, endField, valueOf, fieldStatus}
 use Rattle.fields.specs.FieldLaws.{length-field, field-value, field-after, field-accepted, value-room, field-is}
 use Rattle.casefile.specs.Case.{mostTanks, trialLimit, whereBrought, trialCount}
-use Rattle.casefile.specs.Layout.{trialTag, trialKind, trialLength, trialSize, trialFields}
+use Rattle.casefile.specs.Layout.{trialTag, trialKind, trialLength, trialSize, trialBytes}
 use Rattle.casefile.specs.Decode.{trialStatus, trialOf, afterTrial, endStatus}
 use Rattle.casefile.specs.KindLaws.{trial-lawful}
 
@@ -29,10 +28,6 @@ use Rattle.casefile.specs.KindLaws.{trial-lawful}
 pub brought-most : (k m : ℕ) → whereBrought k m 0 ≤ m
 brought-most zero m = omega arith
 brought-most (suc k) m = omega arith
-
--- the bytes of the trial's field, or none
-abbrev pub trialBytes : ℕ → List ℤ → List ℕ
-trialBytes k y = joined (λ f. f) (trialFields k y)
 
 pub length-trial : (k n : ℕ) (y : List ℤ) → length y ≡ trialCount k n → length (trialBytes k y) ≡ trialSize k n
 length-trial zero n y e = rw append-nil (length-field trialTag (spread trialKind y) ∙ rw (length-spread trialKind y, e))

@@ -41,9 +41,6 @@ value-last-digits (suc e) n h =
 
 -- ---- digits with a point
 
-positive : (e : ℕ) → 0 < 10 ^ e
-positive e = one-le-pow e 10 (lit≤ tt)
-
 -- the parts of a text with a point
 split : (k : ℕ) (a b : List ℕ) → length b ≡ suc k → scaled-value (suc k) (a ++ (46 ∷ b)) ≡ value a * 10 ^ suc k + value b
 unfolding scaled-value
@@ -60,7 +57,7 @@ scaled-value-is zero n = rw (append-nil, div-one n) (value-digits n)
 scaled-value-is (suc k) n =
     let d : ℕ = 10 ^ suc k in
     split k (digits (n / d)) (last-digits (suc k) (n % d)) (length-last-digits (suc k) (n % d))
-    ∙ rw (value-digits (n / d), value-last-digits (suc k) (n % d) (mod-lt n (positive (suc k)))) (div-add-mod' n d)
+    ∙ rw (value-digits (n / d), value-last-digits (suc k) (n % d) (mod-lt n (one-le-pow (suc k) 10 (lit≤ tt)))) (div-add-mod' n d)
 
 -- ---- the sign
 

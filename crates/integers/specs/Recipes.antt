@@ -6,12 +6,13 @@ use native.Mathlib.Omega.{arith}
 use lib.IntN.{ℤ, pos, negsuc, negℤ, natAbs, _+ℤ_, _-ℤ_, _*ℤ_}
 use lib.Signed.{_≤ℤ_, _<ℤ_}
 use mir.Syntax.{w32, w64}
+use mir.Facts.{sfits-widen}
 use mir.Val.{SFits}
 use Rattle.integers.specs.Diff.{Diff, vars, ring, given-≡, quote, abs-parts, add-parts, sub-parts, mul-parts}
 use Rattle.integers.specs.Ring.{expand, sorted}
 use Rattle.integers.specs.Order.{ints}
 use Rattle.integers.specs.Poly.{terms, poly, poly-from}
-use Rattle.integers.specs.Size.{fits, natAbs-+ℤ, at-most, bounds, sfits-by, widen}
+use Rattle.integers.specs.Size.{fits, natAbs-+ℤ, at-most, bounds, sfits-by}
 use Rattle.integers.specs.Sums.{sum, sum-add}
 
 -- ---- an equation of polynomials
@@ -86,7 +87,7 @@ one-more : (x : ℤ) → SFits w32 x → SFits w64 (x +ℤ pos 1)
 one-more x h = omega (arith, fits, natAbs-+ℤ x (pos 1))
 
 wider : (x : ℤ) → SFits w32 x → SFits w64 x
-wider x h = widen tt h
+wider x h = sfits-widen tt h
 
 -- ---- sums: the loop's invariant is `s ≡ sum j f`, and one turn more is `sum-more`
 doubled-sum : (n : ℕ) (f : ℕ → ℤ) → sum n (λ j. f j +ℤ f j) ≡ pos 2 *ℤ sum n f

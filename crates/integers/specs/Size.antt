@@ -5,11 +5,11 @@
 -- Assumes nothing.
 use mathlib.Core.Path.{_≡_, refl, sym, ap}
 use Prim.Native.Nat.{ℕ, zero, suc, _+_, _*_, _^_, _≤_, _<_}
-use native.Mathlib.Nat.{mul-le-mul, mul-le-mul-right, le-trans, lt-of-le-of-lt, lt-of-lt-of-le}
+use native.Mathlib.Nat.{mul-le-mul, mul-le-mul-right, le-trans, lt-of-le-of-lt}
 use native.Mathlib.Omega.{arith}
 use lib.Dec.{T, leb, ltb, ltb→lt, leb→le}
 use lib.IntN.{ℤ, pos, negsuc, negℤ, natAbs, _+ℤ_, _-ℤ_, _*ℤ_, *ℤ-zero}
-use lib.Pow.{pow-pos, pow-mono}
+use lib.Pow.{pow-pos}
 use lib.Signed.{mag, _≤ℤ_}
 use mir.Syntax.{Width}
 use mathlib.Core.Bool.{true}
@@ -122,10 +122,6 @@ sfits-negℤ (suc m) h = record { sfits = h }
 
 pub size-negℤ : {w : Width} (m : ℕ) → SFits w (negℤ (pos m)) → m ≤ 2 ^ hbits w
 size-negℤ {w} m f = omega (arith, size-sfits f, natAbs-negℤ (pos m))
-
--- what fits a width fits a wider one: `widen tt f`
-pub widen : {v w : Width} {z : ℤ} → T (leb (hbits v) (hbits w)) → SFits v z → SFits w z
-widen {v} {w} {z} t f = record { sfits = lt-of-lt-of-le (f .sfits) (pow-mono (leb→le (hbits v) (hbits w) t)) }
 
 -- the rules for `omega`
 pub ruleset fits = (sfits-size, size-sfits)

@@ -17,5 +17,5 @@ read-i16-spec =
     (λ c κs. search needs)
     (λ c. narrow-fits w16 (record { fits = c .before .read-u16 .ok }) (record { sfits = c .signed-of .ok }) (c .signed-of .ensures w16 refl))
     (λ c.
-      narrow-is w16 (record { fits = c .before .read-u16 .ok }) (record { sfits = c .signed-of .ok }) (c .signed-of .ensures w16 refl)
-      ∙ ap (toZ w16) (c .before .read-u16 .ensures)))
+    narrow-is w16 (record { fits = c .before .read-u16 .ok }) (record { sfits = c .signed-of .ok }) (c .signed-of .ensures w16 refl)
+    ∙ ap (toZ w16) (c .before .read-u16 .ensures)))

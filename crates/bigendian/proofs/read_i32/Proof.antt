@@ -17,5 +17,5 @@ read-i32-spec =
     (λ c κs. search needs)
     (λ c. narrow-fits w32 (record { fits = c .before .read-u32 .ok }) (record { sfits = c .signed-of .ok }) (c .signed-of .ensures w32 refl))
     (λ c.
-      narrow-is w32 (record { fits = c .before .read-u32 .ok }) (record { sfits = c .signed-of .ok }) (c .signed-of .ensures w32 refl)
-      ∙ ap (toZ w32) (c .before .read-u32 .ensures)))
+    narrow-is w32 (record { fits = c .before .read-u32 .ok }) (record { sfits = c .signed-of .ok }) (c .signed-of .ensures w32 refl)
+    ∙ ap (toZ w32) (c .before .read-u32 .ensures)))

@@ -15,6 +15,6 @@ read-i64-spec =
     (λ c κs. search needs)
     (λ c κs. search needs)
     (λ c.
-      toZ-ofZ {w = w64} (record { sfits = c .signed-of .ok })
-      ∙ c .signed-of .ensures w64 refl
-      ∙ ap (toZ w64) (c .before .read-u64 .ensures)))
+    toZ-ofZ {w = w64} (record { sfits = c .signed-of .ok })
+    ∙ c .signed-of .ensures w64 refl
+    ∙ ap (toZ w64) (c .before .read-u64 .ensures)))

@@ -17,4 +17,4 @@ read-u16-spec =
     (λ c κs. search needs)
     (λ c. search needs)
     (λ c. let s = c .before .before .before in
-      rw (c .before .byte .ensures .0, c .byte2 .ensures .0) (sym (be-two 1 1 (now (s .args .s)) (s .args .at) (s .pre)))))
+    rw (c .before .byte .ensures .0, c .byte2 .ensures .0) (sym (be-two 1 1 (now (s .args .s)) (s .args .at) (s .pre)))))

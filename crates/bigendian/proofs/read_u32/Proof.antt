@@ -19,4 +19,4 @@ read-u32-spec =
     (λ c. search needs)
     (λ c. search needs)
     (λ c. let s = c .before .before .before in
-      rw (c .before .read-u16 .ensures, c .read-u162 .ensures) (sym (be-two 2 2 (now (s .args .s)) (s .args .at) (s .pre)))))
+    rw (c .before .read-u16 .ensures, c .read-u162 .ensures) (sym (be-two 2 2 (now (s .args .s)) (s .args .at) (s .pre)))))

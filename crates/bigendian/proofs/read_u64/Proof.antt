@@ -19,4 +19,4 @@ read-u64-spec =
     (λ c. search needs)
     (λ c. search needs)
     (λ c. let s = c .before .before .before in
-      rw (c .before .read-u32 .ensures, c .read-u322 .ensures) (sym (be-two 4 4 (now (s .args .s)) (s .args .at) (s .pre)))))
+    rw (c .before .read-u32 .ensures, c .read-u322 .ensures) (sym (be-two 4 4 (now (s .args .s)) (s .args .at) (s .pre)))))

@@ -20,9 +20,9 @@ write-i32-spec =
     (λ c. wide-fits w32 tt (c .before .before .args .z) (c .before .before .fits .z))
     (λ c κs. omega (arith, wide-mag w32 tt (c .before .before .args .z) (c .before .before .fits .z)))
     (λ c. let s = c .before .before .before in
-      rw (wide-bits w32 tt (s .args .z) (s .fits .z) (c .bits-of .ensures w32 refl)) (fits-ofZ (s .fits .z)))
+    rw (wide-bits w32 tt (s .args .z) (s .fits .z) (c .bits-of .ensures w32 refl)) (fits-ofZ (s .fits .z)))
     (λ c κs. search needs)
     (λ c. search needs)
     (λ c. let s = c .before .before .before .before .before .before in
-      c .before .before .write-u32 .ensures
-      ∙ ap (λ (x : ℕ). onto (bytes 4 x) (now (s .args .out))) (wide-bits w32 tt (s .args .z) (s .fits .z) (c .before .before .before .bits-of .ensures w32 refl))))
+    c .before .before .write-u32 .ensures
+    ∙ ap (λ (x : ℕ). onto (bytes 4 x) (now (s .args .out))) (wide-bits w32 tt (s .args .z) (s .fits .z) (c .before .before .before .bits-of .ensures w32 refl))))

@@ -21,5 +21,5 @@ write-i64-spec =
     (λ c κs. search needs)
     (λ c. search needs)
     (λ c. let s = c .before .before .before .before .before .before in
-      c .before .before .write-u64 .ensures
-      ∙ ap (λ (x : ℕ). onto (bytes 8 x) (now (s .args .out))) (c .before .before .before .bits-of .ensures w64 refl ∙ ap (ofZ w64) (toZ-ofZ (s .fits .z)))))
+    c .before .before .write-u64 .ensures
+    ∙ ap (λ (x : ℕ). onto (bytes 8 x) (now (s .args .out))) (c .before .before .before .bits-of .ensures w64 refl ∙ ap (ofZ w64) (toZ-ofZ (s .fits .z)))))

@@ -19,6 +19,6 @@ write-u64-spec =
     (λ c κs. search needs)
     (λ c. search needs)
     (λ c. let high = c .before .before .before .before .before .before .write-u32 in
-      let low = c .before .before .write-u322 in
-      let s = c .before .before .before .before .before .before .before .before .before in
-      written-two 4 4 (s .args .x) (now (s .args .out)) (high .last .0) (low .last .0) (s .fits .x .fits) (high .ensures) (low .ensures)))
+    let low = c .before .before .write-u322 in
+    let s = c .before .before .before .before .before .before .before .before .before in
+    written-two 4 4 (s .args .x) (now (s .args .out)) (high .last .0) (low .last .0) (s .fits .x .fits) (high .ensures) (low .ensures)))

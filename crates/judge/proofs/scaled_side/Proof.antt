@@ -5,9 +5,9 @@ use native.Mathlib.Omega.{arith}
 use lib.IntN.{ℤ, pos, natAbs, _*ℤ_}
 use mir.Syntax.{w64}
 use mir.Val.{SFits, toZ}
-use mir.Facts.{toZ-ofZ, toZ-pos}
+use mir.Facts.{toZ-ofZ, toZ-pos, sfits-widen}
 use borrow.Author.Needs.{needs}
-use Rattle.integers.specs.Size.{at-most, bounds, size-by, size-sfits, sfits-size, widen}
+use Rattle.integers.specs.Size.{at-most, bounds, size-by, size-sfits, sfits-size}
 use Rattle.judge.proofs.scaled_side.Statement.{statement}
 use Rattle.judge.proofs.scaled_side.Tie as tie
 
@@ -28,7 +28,7 @@ module _ (c : tie.Start) where
       size-by (pos D′ *ℤ b′) (search bounds) tt
 
   wide : SFits w64 b′
-  wide = widen tt (c .fits .right-side)
+  wide = sfits-widen tt (c .fits .right-side)
 
   product : SFits w64 (pos D′ *ℤ b′)
   product = sfits-size (omega (arith, small))

@@ -7,9 +7,9 @@ use lib.Dec.{lit≤}
 use lib.IntN.{natAbs}
 use mir.Syntax.{w64}
 use mir.Val.{SFits}
-use mir.Facts.{toZ-ofZ}
+use mir.Facts.{toZ-ofZ, sfits-widen}
 use borrow.Author.Needs.{needs}
-use Rattle.integers.specs.Size.{size-sfits, widen}
+use Rattle.integers.specs.Size.{size-sfits}
 use Rattle.judge.proofs.weight.Statement.{statement}
 use Rattle.judge.proofs.weight.Tie as tie
 
@@ -17,7 +17,7 @@ module _ (c : tie.After-magnitude) where
   y-is : c .magnitude .result ≡ natAbs (c .before .args .figure)
   y-is =
       let f = c .before .fits .figure in
-      let w : SFits w64 (c .before .args .figure) = widen tt f in
+      let w : SFits w64 (c .before .args .figure) = sfits-widen tt f in
       simp toZ-ofZ at (c .magnitude .ensures)
 
   small : c .before .args .tolerance * c .magnitude .result ≤ 2 ^ 47
@@ -26,7 +26,7 @@ module _ (c : tie.After-magnitude) where
       rw y-is (le-trans (mul-le-mul h (size-sfits (c .before .fits .figure))) (lit≤ tt))
 
 cast-magnitude : tie.Need-cast-magnitude
-cast-magnitude c = let f = c .fits .figure in simp toZ-ofZ (widen tt f)
+cast-magnitude c = let f = c .fits .figure in simp toZ-ofZ (sfits-widen tt f)
 
 magnitude-requires : tie.Need-magnitude-requires
 magnitude-requires c κs = search needs

@@ -12,11 +12,11 @@ use Rattle.decimal.specs.Buffer.{ascii, Room, Wrote}
 use Rattle.decimal.specs.BufferLaws.{Rooms, room-here, room-after, wrote-first, wrote-last}
 use mir.Syntax.{w32, w64}
 use mir.Val.{SFits}
-use mir.Facts.{toZ-ofZ}
+use mir.Facts.{toZ-ofZ, sfits-widen}
 use Rattle.decimal.specs.Decimal.{fixed-point}
 use Rattle.report.specs.Text.{labelled, answer-line, line-feed, answer-room}
 use Rattle.report.specs.TextLaws.{length-answer-line}
-use Rattle.integers.specs.Size.{size-sfits, widen}
+use Rattle.integers.specs.Size.{size-sfits}
 use Rattle.report.proofs.write_answer_line.Statement.{statement}
 use Rattle.report.proofs.write_answer_line.Tie as tie
 
@@ -29,7 +29,7 @@ whole-room : (s : tie.Start) → Room (answer-line (s .args .e) (s .args .tank) 
 whole-room s = record { room = omega (arith, short s, s .pre .1 .1) }
 
 wide : (s : tie.Start) → SFits w64 (s .args .figure)
-wide s = widen {v = w32} tt (s .fits .figure)
+wide s = sfits-widen {w = w32} tt (s .fits .figure)
 
 room : (s : tie.Start) → Rooms (labelled (ascii "answer ") (s .args .tank) ∷ ascii " " ∷ fixed-point (s .args .e) (s .args .figure) ∷ line-feed ∷ []) (s .args .at) (now (s .args .out))
 unfolding answer-line

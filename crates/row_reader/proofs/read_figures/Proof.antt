@@ -81,7 +81,7 @@ module _ (c : tie.After-read-u16s) where
   tolerances : Run (upTo toleranceLimit) (row first .tolerances) (c .read-u16s .result) (c .read-u16s .last .1 .1 .1 .0)
   unfolding rowOf
   tolerances =
-      run u16 _ (s first) _ (at first) _ (tolerancesAt (n first))  _ _ (places first .before .before .tolerances-at .ensures) refl (start first .pre .1 .lt) (c .read-u16s .ensures)
+      run u16 _ (s first) _ (at first) _ (tolerancesAt (n first)) _ _ (places first .before .before .tolerances-at .ensures) refl (start first .pre .1 .lt) (c .read-u16s .ensures)
 
 module _ (c : tie.After-read-i32s) where
   abbrev second : tie.After-read-u16s
@@ -94,7 +94,7 @@ module _ (c : tie.After-read-i32s) where
   unfolding rowOf
   right-side =
       let w = first second in
-      run i32 _ (s w) _ (at w) _ (rightSideAt (n w))  _ _ (places w .before .right-side-at .ensures) (at-right-side (n w) _) (start w .pre .1 .lb) (c .read-i32s .ensures)
+      run i32 _ (s w) _ (at w) _ (rightSideAt (n w)) _ _ (places w .before .right-side-at .ensures) (at-right-side (n w) _) (start w .pre .1 .lb) (c .read-i32s .ensures)
 
 module _ (c : tie.After-read-u32s) where
   abbrev third : tie.After-read-i32s
@@ -107,7 +107,7 @@ module _ (c : tie.After-read-u32s) where
   unfolding rowOf
   right-tolerance =
       let w = first (second third) in
-      run u32 _ (s w) _ (at w) _ (rightToleranceAt (n w))  _ _ (places w .right-tolerance-at .ensures) (at-right-tolerance (n w) _) (start w .pre .1 .lf) (c .read-u32s .ensures)
+      run u32 _ (s w) _ (at w) _ (rightToleranceAt (n w)) _ _ (places w .right-tolerance-at .ensures) (at-right-tolerance (n w) _) (start w .pre .1 .lf) (c .read-u32s .ensures)
 
 -- ---- the answers
 
