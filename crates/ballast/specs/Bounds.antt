@@ -31,7 +31,7 @@ module _ (c : Case) (g : Good c) where
   pub limits : Limits (systemOf (stored c)) (scaleOf (c .exponent))
   unfolding stored
   limits =
-      limits-enough (systemOf (stored c)) (scaleOf (c .exponent)) (g .small) (scale-le (c .exponent) (g .exponent-small))
+      limits-enough (systemOf (stored c)) (scaleOf (c .exponent)) (g .limits .small) (scale-le (c .exponent) (g .limits .exponent-small))
       (λ i. rw (getD-padded (pos 0) 64 (c .coefficients) i) (within-at coefficientLimit (c .coefficients) (g .lists .fa) i))
       (λ i. rw (getD-padded (pos 0) 8 (c .right-sides) i) (within-at rightSideLimit (c .right-sides) (g .lists .fb) i))
 
@@ -49,8 +49,8 @@ module _ (c : Case) (g : Good c) where
       λ k. rw (getD-padded 0 8 (c .right-tolerances) k) (upTo-at rightToleranceLimit (c .right-tolerances) (g .lists .ff) k) in
       let e : (k : ℕ) → getD (padded 64 0 (c .tolerances)) k 0 ≤ toleranceLimit =
       λ k. rw (getD-padded 0 64 (c .tolerances) k) (upTo-at toleranceLimit (c .tolerances) (g .lists .ft) k) in
-      let D = mul-le-mul {m₁ = rightToleranceLimit} {m₂ = rightToleranceLimit} (scale-le (c .exponent) (g .exponent-small)) (lit≤ tt) in
-      let n = mul-le-mul {m₁ = toleranceLimit * trialLimit} {m₂ = toleranceLimit * trialLimit} (g .small) (lit≤ tt) in
+      let D = mul-le-mul {m₁ = rightToleranceLimit} {m₂ = rightToleranceLimit} (scale-le (c .exponent) (g .limits .exponent-small)) (lit≤ tt) in
+      let n = mul-le-mul {m₁ = toleranceLimit * trialLimit} {m₂ = toleranceLimit * trialLimit} (g .limits .small) (lit≤ tt) in
       omega (arith, reach-size s (trial (c .n) (scaleOf (c .exponent)) Y) toleranceLimit rightToleranceLimit trialLimit e f y i)
 
 -- the zeros behind a stored case's figures change nothing: its rows are those of the case's own lists

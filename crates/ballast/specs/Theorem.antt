@@ -106,9 +106,9 @@ module _ (c : Case) (g : Good c) where
   finished-case =
       rw (worked-answer c g .judgement-is)
       (record {
-        answer = λ j l. answered (systemOf (stored c)) (scaleOf (c .exponent)) (a .rounds) (a .trial) (omega (arith, g .least)) (g .small) fits-figure fits-residual (reach-le c g (a .trial) (worked-answer c g .figures)) j l;
+        answer = λ j l. answered (systemOf (stored c)) (scaleOf (c .exponent)) (a .rounds) (a .trial) (omega (arith, g .limits .least)) (g .limits .small) fits-figure fits-residual (reach-le c g (a .trial) (worked-answer c g .figures)) j l;
         rounds = recorded-rounds (c .n) (a .rounds) (a .trial) (judgement (systemOf (stored c)) (trial (c .n) (scaleOf (c .exponent)) (a .trial)));
-        justified = record-justified (systemOf (stored c)) (scaleOf (c .exponent)) (a .rounds) (a .trial) (omega (arith, g .least)) (g .small) fits-figure fits-residual (reach-le c g (a .trial) (worked-answer c g .figures));
+        justified = record-justified (systemOf (stored c)) (scaleOf (c .exponent)) (a .rounds) (a .trial) (omega (arith, g .limits .least)) (g .limits .small) fits-figure fits-residual (reach-le c g (a .trial) (worked-answer c g .figures));
       })
 
 -- ---- the call
@@ -132,7 +132,7 @@ module _ (input out : List ℕ) (m : ℕ) (e : call input out .outcome ≡ said 
   pub count-le : m ≤ longestRecord
   unfolding answer-of stored
   count-le =
-      let l : x .n ≤ mostTanks = rw (from .decoded) (fine .small) in
+      let l : x .n ≤ mostTanks = rw (from .decoded) (fine .limits .small) in
       omega (arith, counted .count, length-record (x .n) (x .rounds) (x .trial) (x .judgement), longest-record (x .n) l)
 
   -- every count that the call returns is of a finished case
@@ -166,17 +166,17 @@ module _ (c : Case) (g : Good c) where
       → Holds (c .n) (worked (stored c) .rounds) (worked (stored c) .judgement) room
   unfolding worked stored
   recordable room h e =
-      let r = rounds-le (c .rounds) (g .rounds-small) e in
+      let r = rounds-le (c .rounds) (g .limits .rounds-small) e in
       let j = worked-answer c g .judgement-is in
       let u = ap (λ k. k .unmet) j in
       let d = ap (λ k. k .decides) j in
       let t = trial (c .n) (scaleOf (c .exponent)) (worked (stored c) .trial) in
-      let a = judgement-agrees (systemOf (stored c)) t (omega (arith, g .least)) (g .small) in
+      let a = judgement-agrees (systemOf (stored c)) t (omega (arith, g .limits .least)) (g .limits .small) in
       let ul = unmet-le (systemOf (stored c)) t in
-      let dl = deciding-below (systemOf (stored c)) t (omega (arith, g .least)) in
-      let small = g .small in
+      let dl = deciding-below (systemOf (stored c)) t (omega (arith, g .limits .least)) in
+      let small = g .limits .small in
       record {
-        rows = g .small;
+        rows = g .limits .small;
         rounds-byte = omega arith;
         unmet-byte = omega (arith, u, a .unmet, ul);
         decides-byte = omega (arith, d, a .decides, dl);
@@ -185,7 +185,7 @@ module _ (c : Case) (g : Good c) where
 
   pub workable : Workable (stored c)
   unfolding stored
-  workable = record { rows = g .small; exponent-small = g .exponent-small; limits = limits c g }
+  workable = record { rows = g .limits .small; exponent-small = g .limits .exponent-small; limits = limits c g }
 
 -- an answer that was accepted fits a record
 pub answer-recordable : (input : List ℕ) (x : FileAnswer) (room : ℕ) → x ≡ answer-of (decode input) → x .status ≡ Accepted → longestRecord ≤ room

@@ -49,7 +49,7 @@ tanks-accepted d c w = rw (w .held, w .decoded)
 
 pub few-tanks : (input : List ℕ) (c : Case) → Whole (decode input) c → c .n ≤ text-room
 unfolding stored
-few-tanks input c w = rw (w .held) (omega (arith, good (w .figures) (decode-fine input (w .figures) (w .decoded)) .small))
+few-tanks input c w = rw (w .held) (omega (arith, good (w .figures) (decode-fine input (w .figures) (w .decoded)) .limits .small))
 
 -- ---- judging
 

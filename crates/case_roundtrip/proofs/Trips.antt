@@ -73,9 +73,9 @@ module _ (s : List ℕ) (p : Stored) (w : Whole (decode s) p) where
   small =
       rw (w .held)
       (record {
-        n-small = fine .small;
-        square = square-fits _ (fine .small);
-        trial-count = omega (arith, fine .small, brought-most (c .rounds) (c .n));
+        n-small = fine .limits .small;
+        square = square-fits _ (fine .limits .small);
+        trial-count = omega (arith, fine .limits .small, brought-most (c .rounds) (c .n));
         la = padded-holds (pos 0) 64 (c .n * c .n) (c .coefficients) (fine .lists .la);
         lt = padded-holds 0 64 (c .n * c .n) (c .tolerances) (fine .lists .lt);
         lb = padded-holds (pos 0) 8 (c .n) (c .right-sides) (fine .lists .lb ∙ mul-one (c .n));

@@ -23,7 +23,7 @@ use Rattle.figures.specs.Figures.{upTo, within, all}
 use Rattle.figures.specs.FigureLaws.{and-true, length-items}
 use Rattle.fields.specs.Field.{headerSize, field, endTag, endSize, endField, valueOf, afterField, fieldStatus}
 use Rattle.fields.specs.FieldLaws.{length-field, field-accepted, field-room, field-is}
-use Rattle.casefile.specs.Case.{Case, mostTanks, mostExponent, mostRounds, coefficientLimit, toleranceLimit, rightSideLimit, rightToleranceLimit, trialLimit, headFine, HeadSmall, trialCount, counted, listsFine, figuresFine, caseStatus}
+use Rattle.casefile.specs.Case.{Case, mostTanks, mostExponent, coefficientLimit, toleranceLimit, rightSideLimit, rightToleranceLimit, trialLimit, headFine, HeadSmall, trialCount, counted, listsFine, figuresFine, caseStatus}
 use Rattle.casefile.specs.Layout.{headTag, headLength, headValue, nAt, exponentAt, roundsAt, rowsAt, rowSize, rowsEnd, longestCase, rowField, rowsIn, trialLength, trialSize, trialFields, trialBytes, encode}
 use Rattle.casefile.specs.Decode.{headTanks, headExponent, headRounds, headStatus, rowsStatus, rowsOf, trialStatus, afterTrial, endStatus, tailOf, inputStatus, caseOf, accepted, decoded, decode}
 use Rattle.casefile.specs.RowLaws.{lists-fine}
@@ -59,10 +59,7 @@ module _ (s : List ℕ) (e : headStatus s ≡ Accepted) where
 
 pub record Good (c : Case) : Type 0 where
   pub head : headFine (c .n) (c .exponent) (c .rounds) ≡ true
-  pub least : 1 ≤ c .n
-  pub small : c .n ≤ mostTanks
-  pub exponent-small : c .exponent ≤ mostExponent
-  pub rounds-small : c .rounds ≤ mostRounds
+  pub limits : HeadSmall (c .n) (c .exponent) (c .rounds)
   pub lists : Lists (c .n) (c .n) (c .coefficients) (c .tolerances) (c .right-sides) (c .right-tolerances)
   pub trial-counted : length (c .trial) ≡ trialCount (c .rounds) (c .n)
   pub trial-fine : all (within trialLimit) (c .trial) ≡ true
@@ -73,7 +70,6 @@ good c e =
     let w1 = first-accepted (check (headFine (c .n) (c .exponent) (c .rounds)) OutsideLimits) _ e in
     let w2 = first-accepted (check (counted c) WrongLength) _ (w1 .1) in
     let h0 = check-accepted _ OutsideLimits (w1 .0) in
-    let h = head-small (c .n) (c .exponent) (c .rounds) h0 in
     let c0 = check-accepted (counted c) WrongLength (w2 .0) in
     let c1 = and-true (eqb (length (c .coefficients)) (c .n * c .n)) _ c0 in
     let c2 = and-true (eqb (length (c .tolerances)) (c .n * c .n)) _ (c1 .1) in
@@ -83,10 +79,7 @@ good c e =
     let f = lists-fine _ _ _ _ (f0 .0) in
     record {
       head = h0;
-      least = h .least;
-      small = h .small;
-      exponent-small = h .exponent-small;
-      rounds-small = h .rounds-small;
+      limits = head-small (c .n) (c .exponent) (c .rounds) h0;
       lists = record {
         la = eqb-true _ _ (c1 .0);
         lt = eqb-true _ _ (c2 .0);
@@ -126,12 +119,12 @@ decode-encode c e =
     let g = good c e in
     let T : List ℕ = trialBytes (c .rounds) (c .trial) ++ endField in
     let rows = split-sound (c .n) (c .n) _ _ _ _ (g .lists) in
-    let b = rows-back (c .n) (g .small) rows T in
+    let b = rows-back (c .n) (g .limits .small) rows T in
     let m = length-split (c .n) (c .n) (c .coefficients) (c .tolerances) (c .right-sides) (c .right-tolerances) in
     let accepted-rows = rw m at (b .accepted) in
     let read-rows = rw m at (b .read) in
     let after = rw m at (rows-after (c .n) rows T) in
-    let t = trial-back (c .rounds) (c .n) (c .trial) endField (g .small) (g .trial-counted) (g .trial-fine) in
+    let t = trial-back (c .rounds) (c .n) (c .trial) endField (g .limits .small) (g .trial-counted) (g .trial-fine) in
     let j = joined-split (c .n) (c .n) _ _ _ _ (g .lists) in
     rw (
       encode-is c,
@@ -267,7 +260,7 @@ length-encode c g =
 pub longest : (c : Case) → caseStatus c ≡ Accepted → length (encode c) ≤ longestCase
 longest c e =
     let g = good c e in
-    omega (arith, length-encode c g, rows-fit (c .n) (g .small), brought-most (c .rounds) (headerSize + trialLength (c .n)))
+    omega (arith, length-encode c g, rows-fit (c .n) (g .limits .small), brought-most (c .rounds) (headerSize + trialLength (c .n)))
 
 -- document 01: "at most 389 bytes .., which is enough to refuse a longer one". What is read as a case is no longer than the longest
 pub accepted-length : (s : List ℕ) (c : Case) → Bytes s → decode s ≡ accepted c → length s ≤ longestCase

@@ -27,7 +27,7 @@ module _ (s : tie.Start) where
 write-rows-requires : tie.Need-write-rows-requires
 write-rows-requires c κs =
     let s = c .before .before .before .before .before .before .before .before in
-    omega (arith, fine s .small, fine s .lists, size s)
+    omega (arith, fine s .limits .small, fine s .lists, size s)
 
 -- where the calls before the place of the trial stand
 module _ (r : tie.After-rows-end) where
@@ -43,7 +43,7 @@ module _ (r : tie.After-rows-end) where
 write-trial-requires : tie.Need-write-trial-requires
 write-trial-requires c κs =
     let r = c .before in
-    omega (arith, fine (start r) .small, fine (start r) .trial-counted, size (start r))
+    omega (arith, fine (start r) .limits .small, fine (start r) .trial-counted, size (start r))
 
 -- and before the place of the end
 module _ (z : tie.After-trial-size) where
@@ -78,12 +78,12 @@ write-fields-spec =
     (λ c. search needs)
     (λ c. search needs)
     write-rows-requires
-    (λ c κs. fine (c .before .before .before .before .before .before .before .before .before .before .before) .small)
+    (λ c κs. fine (c .before .before .before .before .before .before .before .before .before .before .before) .limits .small)
     (λ r. omega (arith, size (start r)))
     (λ r. omega (arith, size (start r)))
     (λ c. search needs)
     write-trial-requires
-    (λ c κs. fine (c .before .before .before .before .before .before .before .before .before .before .before .before .before .before .before .before) .small)
+    (λ c κs. fine (c .before .before .before .before .before .before .before .before .before .before .before .before .before .before .before .before) .limits .small)
     (λ z. omega (arith, size (start (tail z))))
     (λ z. omega (arith, size (start (tail z))))
     (λ z. omega (arith, size (start (tail z))))
