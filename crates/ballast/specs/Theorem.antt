@@ -8,12 +8,13 @@ use lib.ListN.{length, getD}
 use lib.IntN.{ℤ, pos}
 use mir.Syntax.{w32, w64}
 use mir.Val.{SFits}
+use Rattle.limits.specs.Limits.{mostTanks, mostRounds}
 use Rattle.integers.specs.Size.{sfits-size}
 use Rattle.outcome.specs.declared.Outcome.{Outcome}
 use Rattle.outcome.specs.declared.Status.the-variants.{Accepted}
 use Rattle.ballast.specs.declared.Answer.{Answer as FileAnswer}
 use Rattle.outcome.specs.declared.Outcome.the-variants.{Count}
-use Rattle.casefile.specs.Case.{Case, mostTanks, mostRounds}
+use Rattle.casefile.specs.Case.{Case}
 use Rattle.casefile.specs.CaseLaws.{Good, good, decode-fine}
 use Rattle.casefile.specs.Decode.{decode, stored}
 use Rattle.outcome.specs.Outcome.{said}

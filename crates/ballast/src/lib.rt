@@ -5,6 +5,7 @@ ghost use Rattle.ballast.specs.Call.{status-of, answer-with, no-answer, 
 ghost use Rattle.ballast.specs.Demand.{Promise};
 use casefile::Case;
 use judge::Judgement;
+use limits::MOST_TANKS;
 use outcome::Outcome;
 use outcome::Refusal;
 use outcome::Status;
@@ -16,16 +17,16 @@ pub struct Answer {
     pub n: usize,
     pub exponent: usize,
     pub rounds: usize,
-    pub trial: [i32; 8],
+    pub trial: [i32; MOST_TANKS],
     pub judgement: Judgement,
 }
 
 fn refused(refusal: Refusal) -> Answer
     ensures { λ r. ⌜ r ≡ no-answer refusal ⌝ }
 {
-    let trial = [0i32; 8];
-    let residuals = [0i64; 8];
-    let reaches = [0u64; 8];
+    let trial = [0i32; MOST_TANKS];
+    let residuals = [0i64; MOST_TANKS];
+    let reaches = [0u64; MOST_TANKS];
     let judgement = Judgement {
         met: false,
         unmet: 0,

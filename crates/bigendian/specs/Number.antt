@@ -1,7 +1,9 @@
 -- Big-endian numbers of a stated count of bytes.
-use Prim.Native.Nat.{ℕ, zero, suc, _+_, _*_, _/_, _%_, _^_}
+use Prim.Native.Nat.{ℕ, zero, suc, _+_, _*_, _-_, _/_, _%_, _^_}
 use mathlib.Core.List.{List, [], _∷_}
 use lib.ListN.{length}
+use mir.Syntax.{Width}
+use mir.Val.{bits}
 
 -- document 01: "Numbers are big-endian". The number that the bytes s are, the highest first
 unfoldable pub be : List ℕ → ℕ
@@ -12,3 +14,7 @@ be (x ∷ s) = x * 256 ^ length s + be s
 unfoldable pub bytes : ℕ → ℕ → List ℕ
 bytes zero x = []
 bytes (suc w) x = x / 256 ^ w ∷ bytes w (x % 256 ^ w)
+
+-- the highest number of a width
+abbrev pub highest : Width → ℕ
+highest w = 2 ^ bits w - 1

@@ -1,10 +1,10 @@
 -- The laws of numbers of w bytes, once for every w: decode of encode, encode of decode, and a number in two parts. Assumes nothing.
-use mathlib.Core.Path.{_≡_, refl, sym, ap, ap₂, _∙_, subst}
+use mathlib.Core.Path.{_≡_, refl, sym, ap}
 use Prim.Native.Nat.{ℕ, zero, suc, _+_, _*_, _/_, _%_, _^_, _≤_, _<_}
 use mathlib.Core.List.{List, [], _∷_, _++_}
 use lib.ListN.{length, take, drop, getD, length-append, length-take, length-drop}
 use lib.Arith.{digits-lt, digits-div, digits-mod, lt-one}
-use lib.Seq.{drop-cons, drop-drop, take-add}
+use lib.Seq.{length-take-le, drop-cons, drop-drop, take-add}
 use native.Mathlib.Nat.{div-lt-iff-lt-mul, mod-lt, div-add-mod', zero-add, pow-suc, mul-comm, one-le-pow, zero-mul, mul-assoc, add-mul, add-assoc}
 use native.Mathlib.Omega.{arith}
 use lib.Dec.{lit<, lit≤}
@@ -29,20 +29,17 @@ pos256 w = one-le-pow w 256 (lit≤ tt)
 pub be-bytes : (w n : ℕ) → n < 256 ^ w → be (bytes w n) ≡ n
 unfolding be bytes
 be-bytes zero n h = sym (lt-one h)
-be-bytes (suc w) n h =
-    ap₂ (λ (a b : ℕ). n / 256 ^ w * 256 ^ a + b) (length-bytes w (n % 256 ^ w)) (be-bytes w (n % 256 ^ w) (mod-lt n (pos256 w)))
-    ∙ div-add-mod' n (256 ^ w)
+be-bytes (suc w) n h = rw (length-bytes w (n % 256 ^ w), be-bytes w (n % 256 ^ w) (mod-lt n (pos256 w))) (div-add-mod' n (256 ^ w))
 
 pub be-lt : {s : List ℕ} → Bytes s → be s < 256 ^ length s
 unfolding be
 be-lt none = lit< tt
-be-lt (one {x = x} {s = s} h r) = subst (λ (k : ℕ). x * 256 ^ length s + be s < k) (mul-comm 256 (256 ^ length s) ∙ sym (pow-suc 256 (length s))) (digits-lt h (be-lt r))
+be-lt (one {s = s} h r) = rw (pow-suc 256 (length s), mul-comm (256 ^ length s) 256) (digits-lt h (be-lt r))
 
 pub bytes-be : {s : List ℕ} → Bytes s → bytes (length s) (be s) ≡ s
 unfolding be bytes
 bytes-be none = refl
-bytes-be (one {x = x} {s = s} h r) =
-    ap₂ (λ (a : ℕ) (b : List ℕ). a ∷ b) (digits-div x (be-lt r)) (ap (bytes (length s)) (digits-mod x (be-lt r)) ∙ bytes-be r)
+bytes-be (one {x = x} h r) = rw (digits-div x (be-lt r), digits-mod x (be-lt r), bytes-be r)
 
 -- what a slice of bytes tells of its elements
 pub bytes-from : (s : List ℕ) → ((i : ℕ) → getD s i 0 < 256) → Bytes s
@@ -59,16 +56,13 @@ bytes-drop zero b = b
 bytes-drop (suc n) none = none
 bytes-drop (suc n) (one h b) = bytes-drop n b
 
--- w bytes of the input are the bytes of their number
-pub bytes-of : (w : ℕ) (s : List ℕ) → Bytes s → w ≤ length s → bytes w (be (take w s)) ≡ take w s
-bytes-of w s b h =
-    let l : length (take w s) ≡ w = simp length-take (omega arith) in
-    subst (λ (k : ℕ). bytes k (be (take w s)) ≡ take w s) l (bytes-be (bytes-take w b))
+-- w bytes of the input are the bytes of their number, which w bytes can hold
+module _ (w : ℕ) (s : List ℕ) (b : Bytes s) (h : w ≤ length s) where
+  pub bytes-of : bytes w (be (take w s)) ≡ take w s
+  bytes-of = rw (length-take-le w s h) at (bytes-be (bytes-take w b))
 
-pub be-of : (w : ℕ) (s : List ℕ) → Bytes s → w ≤ length s → be (take w s) < 256 ^ w
-be-of w s b h =
-    let l : length (take w s) ≡ w = simp length-take (omega arith) in
-    subst (λ (k : ℕ). be (take w s) < 256 ^ k) l (be-lt (bytes-take w b))
+  pub be-of : be (take w s) < 256 ^ w
+  be-of = rw (length-take-le w s h) at (be-lt (bytes-take w b))
 
 -- ---- a number in two parts, once for every two widths
 
@@ -98,21 +92,17 @@ pub bytes-two : (v w x : ℕ) → x < 256 ^ (v + w) → bytes (v + w) x ≡ byte
 bytes-two v w x h =
     let a : ℕ = x / 256 ^ w in
     let b : ℕ = x % 256 ^ w in
-    let l : List ℕ = bytes v a ++ bytes w b in
     let ha : a < 256 ^ v = div-lt-iff-lt-mul (pos256 w) .1 (rw (pow-add 256 v w) at h) in
     let hb : b < 256 ^ w = mod-lt x (pos256 w) in
-    let n : length l ≡ v + w = length-append (bytes v a) (bytes w b) ∙ ap₂ _+_ (length-bytes v a) (length-bytes w b) in
-    let e : be l ≡ x =
-    be-append (bytes v a) (bytes w b) ∙ rw (be-bytes v a ha, be-bytes w b hb, length-bytes w b) (div-add-mod' x (256 ^ w)) in
-    let g : bytes (length l) (be l) ≡ l = bytes-be (bytes-append (bytes-are v a ha) (bytes-are w b hb)) in
-    rw (n, e) at g
+    let n : length (bytes v a ++ bytes w b) ≡ v + w = simp (length-append, length-bytes) in
+    let e : be (bytes v a ++ bytes w b) ≡ x = rw (be-append (bytes v a) (bytes w b), be-bytes v a ha, be-bytes w b hb, length-bytes w b) (div-add-mod' x (256 ^ w)) in
+    rw (n, e) at (bytes-be (bytes-append (bytes-are v a ha) (bytes-are w b hb)))
 
 -- the two parts written one after the other: the buffer xs₀, then xs with the first part over its front, and ys the rest with the second over its own
 pub written-two : (v w x : ℕ) (xs₀ xs ys : List ℕ) → x < 256 ^ (v + w) → xs ≡ onto (bytes v (x / 256 ^ w)) xs₀
     → ys ≡ onto (bytes w (x % 256 ^ w)) (part xs v) → put xs v ys ≡ onto (bytes (v + w) x) xs₀
 written-two v w x xs₀ xs ys h e f =
-    then xs₀ xs (bytes v (x / 256 ^ w)) (bytes w (x % 256 ^ w)) v ys e (length-bytes v (x / 256 ^ w)) f
-    ∙ ap (λ (d : List ℕ). onto d xs₀) (sym (bytes-two v w x h))
+    rw (bytes-two v w x h) (then xs₀ xs (bytes v (x / 256 ^ w)) (bytes w (x % 256 ^ w)) v ys e (length-bytes v _) f)
 
 -- ---- a single byte
 

@@ -1,18 +1,32 @@
 // Big-endian numbers of 2, 4 and 8 bytes: read at a place of a slice, and written over the front of a lent part.
-// Signed numbers are in two's complement. Each function asks only that its bytes lie within the slice.
+// Signed numbers are in two's complement. Each open function asks only that its bytes lie within the slice.
 ghost use mathlib.Core.Path.{_≡_};
-ghost use Prim.Native.Nat.{_+_, _-_, _^_, _≤_, _<_};
+ghost use Prim.Native.Nat.{_+_, _≤_, _<_};
 ghost use lib.ListN.{length, take, drop};
 ghost use lib.Signed.{mag};
 ghost use mir.Syntax.{Width, w16, w32, w64};
-ghost use mir.Val.{toZ, ofZ, bits};
-ghost use Rattle.bigendian.specs.Number.{be, bytes};
+ghost use mir.Val.{toZ, ofZ};
+ghost use Rattle.bigendian.specs.Number.{be, bytes, highest};
 ghost use Rattle.buffer.specs.Buffer.{onto};
 
-// The highest numbers of the widths.
-const HIGHEST_16: u64 = 65535;
+// How many bytes a number of 16, 32 and 64 bits has.
+pub const SIZE_16: usize = 2;
 
-const HIGHEST_32: u64 = 4294967295;
+pub const SIZE_32: usize = 4;
+
+pub const SIZE_64: usize = 8;
+
+// How many numbers of 8, 16 and 32 bits there are.
+const COUNT_8: u16 = 256;
+
+const COUNT_16: u32 = 65536;
+
+const COUNT_32: u64 = 4294967296;
+
+// The highest numbers of the widths.
+const HIGHEST_16: u64 = COUNT_16 as u64 - 1;
+
+const HIGHEST_32: u64 = COUNT_32 - 1;
 
 const HIGHEST_64: u64 = 18446744073709551615;
 
@@ -28,7 +42,7 @@ pub fn read_u16(s: &[u8], at: usize) -> u16
     requires { ⌜ at + 2 ≤ length (now s) ⌝ }
     ensures { λ r. ⌜ r ≡ be (take 2 (drop at (now (s .entry)))) ⌝ }
 {
-    byte(s, at) * 256 + byte(s, at + 1)
+    byte(s, at) * COUNT_8 + byte(s, at + 1)
 }
 
 pub fn read_u32(s: &[u8], at: usize) -> u32
@@ -36,8 +50,8 @@ pub fn read_u32(s: &[u8], at: usize) -> u32
     ensures { λ r. ⌜ r ≡ be (take 4 (drop at (now (s .entry)))) ⌝ }
 {
     let high = read_u16(s, at) as u32;
-    let low = read_u16(s, at + 2) as u32;
-    high * 65536 + low
+    let low = read_u16(s, at + SIZE_16) as u32;
+    high * COUNT_16 + low
 }
 
 pub fn read_u64(s: &[u8], at: usize) -> u64
@@ -45,14 +59,14 @@ pub fn read_u64(s: &[u8], at: usize) -> u64
     ensures { λ r. ⌜ r ≡ be (take 8 (drop at (now (s .entry)))) ⌝ }
 {
     let high = read_u32(s, at) as u64;
-    let low = read_u32(s, at + 4) as u64;
-    high * 4294967296 + low
+    let low = read_u32(s, at + SIZE_32) as u64;
+    high * COUNT_32 + low
 }
 
 // The signed number that has these bits, in the width whose highest number is `ones`.
 fn signed_of(x: u64, ones: u64) -> i64
     requires { ⌜ x ≤ ones ⌝ }
-    ensures { λ r. ⌜ ((w : Width) → ones ≡ 2 ^ bits w - 1 → r ≡ toZ w x) ⌝ }
+    ensures { λ r. ⌜ ((w : Width) → ones ≡ highest w → r ≡ toZ w x) ⌝ }
 {
     if x <= ones / 2 {
         x as i64
@@ -86,30 +100,30 @@ pub fn write_u16(out: &mut [u8], x: u16)
     requires { ⌜ 2 ≤ length (now out) ⌝ }
     ensures { λ _. ⌜ now (out .exit) ≡ onto (bytes 2 x) (now (out .entry)) ⌝ }
 {
-    out[0] = (x / 256) as u8;
-    out[1] = (x % 256) as u8;
+    out[0] = (x / COUNT_8) as u8;
+    out[1] = (x % COUNT_8) as u8;
 }
 
 pub fn write_u32(out: &mut [u8], x: u32)
     requires { ⌜ 4 ≤ length (now out) ⌝ }
     ensures { λ _. ⌜ now (out .exit) ≡ onto (bytes 4 x) (now (out .entry)) ⌝ }
 {
-    write_u16(out, (x / 65536) as u16);
-    write_u16(&mut out[2..], (x % 65536) as u16);
+    write_u16(out, (x / COUNT_16) as u16);
+    write_u16(&mut out[SIZE_16..], (x % COUNT_16) as u16);
 }
 
 pub fn write_u64(out: &mut [u8], x: u64)
     requires { ⌜ 8 ≤ length (now out) ⌝ }
     ensures { λ _. ⌜ now (out .exit) ≡ onto (bytes 8 x) (now (out .entry)) ⌝ }
 {
-    write_u32(out, (x / 4294967296) as u32);
-    write_u32(&mut out[4..], (x % 4294967296) as u32);
+    write_u32(out, (x / COUNT_32) as u32);
+    write_u32(&mut out[SIZE_32..], (x % COUNT_32) as u32);
 }
 
 // The bits of a signed number, in the width whose highest number is `ones`.
 fn bits_of(z: i64, ones: u64) -> u64
     requires { ⌜ mag z ≤ ones ⌝ }
-    ensures { λ r. ⌜ ((w : Width) → ones ≡ 2 ^ bits w - 1 → r ≡ ofZ w z) ⌝ }
+    ensures { λ r. ⌜ ((w : Width) → ones ≡ highest w → r ≡ ofZ w z) ⌝ }
 {
     if z < 0 {
         ones - ((!z) as u64)

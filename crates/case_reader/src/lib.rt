@@ -2,7 +2,7 @@
 ghost use mathlib.Core.Path.{_≡_};
 ghost use lib.ListN.{drop};
 ghost use Rattle.casefile.specs.Decode.{endStatus, refused as refusedBy, decode, reading};
-ghost use Rattle.case_reader.specs.Read.{HeadFound, TrialRoom, TrialFound};
+ghost use Rattle.case_reader.specs.Read.{HeadFound, TrialRoom, TrialFound, TailFound};
 use casefile::Case;
 use casefile::Reading;
 use fields::HEADER_SIZE;
@@ -32,13 +32,9 @@ fn read_head(s: &[u8]) -> Head
     let n = s[casefile::N_AT] as usize;
     let exponent = s[casefile::EXPONENT_AT] as usize;
     let rounds = s[casefile::ROUNDS_AT] as usize;
-    let status = if casefile::head_fine(n, exponent, rounds) {
-        Status::Accepted
-    } else {
-        Status::Refused(Refusal::OutsideLimits)
-    };
+    let fine = casefile::head_fine(n, exponent, rounds);
     Head {
-        status,
+        status: outcome::check(fine, Refusal::OutsideLimits),
         n,
         exponent,
         rounds,
@@ -48,7 +44,7 @@ fn read_head(s: &[u8]) -> Head
 // The trial's field at a place of s, where the case brings one, its figures over the front of y.
 fn read_trial(s: &[u8], at: usize, rounds: usize, n: usize, y: &mut [i32]) -> Status
     requires { ⌜ TrialRoom n (now y) ⌝ }
-    ensures { λ r. ⌜ TrialFound rounds n (drop at (now (s .entry))) r (now (y .entry)) (now (y .exit)) ⌝ }
+    ensures { λ r. ⌜ TrialFound rounds n (drop at (now (s .entry))) (now (y .entry)) r (now (y .exit)) ⌝ }
 {
     if rounds != 0 {
         return Status::Accepted;
@@ -57,10 +53,8 @@ fn read_trial(s: &[u8], at: usize, rounds: usize, n: usize, y: &mut [i32]) -> St
     if let Status::Refused(_) = field {
         return field;
     }
-    if !figures::read_i32s(s, at + HEADER_SIZE, casefile::TRIAL_LIMIT, &mut y[..n]) {
-        return Status::Refused(Refusal::OutsideLimits);
-    }
-    Status::Accepted
+    let fine = figures::read_i32s(s, at + HEADER_SIZE, limits::TRIAL_LIMIT, &mut y[..n]);
+    outcome::check(fine, Refusal::OutsideLimits)
 }
 
 // The first refusal from the end field on, or none.
@@ -71,22 +65,30 @@ fn read_end(s: &[u8], at: usize) -> Status
     if let Status::Refused(_) = field {
         return field;
     }
-    if s.len() - at == fields::END_SIZE {
-        Status::Accepted
-    } else {
-        Status::Refused(Refusal::TrailingBytes)
+    outcome::check(s.len() - at == fields::END_SIZE, Refusal::TrailingBytes)
+}
+
+// The first refusal from the end of the rows on, or none; the trial's figures, where the case brings one, over the front of y.
+fn read_tail(s: &[u8], at: usize, rounds: usize, n: usize, y: &mut [i32]) -> Status
+    requires { ⌜ TrialRoom n (now y) ⌝ }
+    ensures { λ r. ⌜ TailFound rounds n (drop at (now (s .entry))) (now (y .entry)) r (now (y .exit)) ⌝ }
+{
+    let trial = read_trial(s, at, rounds, n, y);
+    if let Status::Refused(_) = trial {
+        return trial;
     }
+    read_end(s, at + casefile::trial_size(rounds, n))
 }
 
 // A refusal, beside a case of zeros.
 pub fn refused(refusal: Refusal) -> Reading
     ensures { λ r. ⌜ r ≡ reading (refusedBy refusal) ⌝ }
 {
-    let coefficients = [0i16; 64];
-    let tolerances = [0u16; 64];
-    let right_sides = [0i32; 8];
-    let right_tolerances = [0u32; 8];
-    let trial = [0i32; 8];
+    let coefficients = [0i16; limits::MOST_COEFFICIENTS];
+    let tolerances = [0u16; limits::MOST_COEFFICIENTS];
+    let right_sides = [0i32; limits::MOST_TANKS];
+    let right_tolerances = [0u32; limits::MOST_TANKS];
+    let trial = [0i32; limits::MOST_TANKS];
     let case = Case {
         n: 0,
         exponent: 0,
@@ -114,22 +116,17 @@ pub fn read_case(s: &[u8]) -> Reading
     }
     let n = head.n;
     let rounds = head.rounds;
-    let mut a = [0i16; 64];
-    let mut t = [0u16; 64];
-    let mut b = [0i32; 8];
-    let mut f = [0u32; 8];
-    let mut y = [0i32; 8];
+    let mut a = [0i16; limits::MOST_COEFFICIENTS];
+    let mut t = [0u16; limits::MOST_COEFFICIENTS];
+    let mut b = [0i32; limits::MOST_TANKS];
+    let mut f = [0u32; limits::MOST_TANKS];
+    let mut y = [0i32; limits::MOST_TANKS];
     let rows = row_reader::read_rows(s, casefile::ROWS_AT, n, &mut a, &mut t, &mut b, &mut f);
     if let Status::Refused(q) = rows {
         return refused(q);
     }
-    let tail = casefile::rows_end(n);
-    let brought = read_trial(s, tail, rounds, n, &mut y);
-    if let Status::Refused(q) = brought {
-        return refused(q);
-    }
-    let end = read_end(s, tail + casefile::trial_size(rounds, n));
-    if let Status::Refused(q) = end {
+    let tail = read_tail(s, casefile::rows_end(n), rounds, n, &mut y);
+    if let Status::Refused(q) = tail {
         return refused(q);
     }
     let case = Case {

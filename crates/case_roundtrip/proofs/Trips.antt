@@ -4,7 +4,6 @@ use mathlib.Core.Path.{_≡_, sym, ap, ap₂, _∙_}
 use mathlib.Core.List.{List}
 use Prim.Native.Nat.{ℕ, _*_, _≤_}
 use native.Mathlib.Omega.{arith}
-use native.Mathlib.Nat.{mul-one}
 use lib.ListN.{length, take}
 use lib.IntN.{pos}
 use Rattle.outcome.specs.declared.Refusal.{Refusal}
@@ -12,17 +11,20 @@ use Rattle.outcome.specs.Outcome.{said}
 use Rattle.outcome.specs.declared.Outcome.{Outcome}
 use Rattle.outcome.specs.declared.Outcome.the-variants.{Count, Refused as RefusedBy}
 use Rattle.bigendian.specs.NumberLaws.{Bytes}
+use Rattle.casefile.specs.Block.{Block, block, RowsRoom, front}
 use Rattle.casefile.specs.declared.Case.{Case as Stored}
 use Rattle.casefile.specs.declared.Reading.{Reading}
-use Rattle.casefile.specs.Case.{Case, given, mostTanks, trialCount}
-use Rattle.casefile.specs.Decode.{accepted, refused, decode, stored, reading}
+use Rattle.limits.specs.Limits.{mostTanks, mostCoefficients}
+use Rattle.casefile.specs.Case.{Case, caseWith, trialCount}
+use Rattle.casefile.specs.Decode.{accepted, refused, decoded, decode, places, stored, reading}
 use Rattle.casefile.specs.StoredLaws.{padded-holds, take-padded, Whole}
+use Rattle.casefile.specs.BlockLaws.{counts, front-over, room-over}
 use Rattle.casefile.specs.RowsLaws.{square-fits}
 use Rattle.casefile.specs.TailLaws.{brought-most}
 use Rattle.casefile.specs.CaseLaws.{Good, good, decode-fine}
 use Rattle.casefile.specs.Write.{writeStatus, write, leaves}
 use Rattle.casefile.specs.WriteLaws.{count-accepted, count-fits, written-read, refused-status, read-written}
-use Rattle.case_roundtrip.specs.Trip.{readBack, writtenAndRead, comesBack, writtenAgain}
+use Rattle.case_roundtrip.specs.Trip.{writtenAndRead, comesBack, writtenAgain}
 
 -- ---- written, then read
 
@@ -30,7 +32,7 @@ module _ (c : Case) (out : List ℕ) (o : Outcome) {exit : List ℕ} (e : leaves
   answer : write c out .outcome ≡ said o
   answer = sym (ap (λ w. w .outcome) e)
 
-  back : (r : Reading) → r ≡ readBack (writeStatus c (length out)) c → comesBack r exit ≡ writtenAndRead c out
+  back : (r : Reading) → r ≡ reading (decoded (writeStatus c (length out)) c) → comesBack r exit ≡ writtenAndRead c out
   back r q = ap₂ comesBack q (ap (λ w. w .buffer) e)
 
   pub fits : (m : ℕ) → o ≡ Count m → m ≤ length exit
@@ -39,27 +41,27 @@ module _ (c : Case) (out : List ℕ) (o : Outcome) {exit : List ℕ} (e : leaves
   pub is-read : (m : ℕ) → o ≡ Count m → (r : Reading) → r ≡ reading (decode (take m exit)) → comesBack r exit ≡ writtenAndRead c out
   is-read m h r q =
       let d : decode (take m exit) ≡ accepted c = rw (← (ap (λ w. w .buffer) e)) at (written-read c out m (answer ∙ ap said h)) in
-      back r (q ∙ ap reading d ∙ sym (ap (λ t. readBack t c) (count-accepted c out m (answer ∙ ap said h))))
+      back r (q ∙ ap reading d ∙ sym (ap (λ t. reading (decoded t c)) (count-accepted c out m (answer ∙ ap said h))))
 
   pub is-refused : (q : Refusal) → o ≡ RefusedBy q → (r : Reading) → r ≡ reading (refused q) → comesBack r exit ≡ writtenAndRead c out
-  is-refused q h r g = back r (g ∙ sym (ap (λ t. readBack t c) (refused-status c out q (answer ∙ ap said h))))
+  is-refused q h r g = back r (g ∙ sym (ap (λ t. reading (decoded t c)) (refused-status c out q (answer ∙ ap said h))))
 
 -- ---- read, then written
+
+-- the rows that a case holds, with zeros behind them
+abbrev pub lists : Stored → Block
+lists p = block (p .coefficients) (p .tolerances) (p .«right_sides») (p .«right_tolerances»)
 
 -- the case of the lists that a caller hands on, k figures of its trial
 abbrev pub handed : Stored → ℕ → Case
 handed p k =
-    given (p .n) (p .exponent) (p .rounds) (take (p .n * p .n) (p .coefficients)) (take (p .n * p .n) (p .tolerances)) (take (p .n) (p .«right_sides»)) (take (p .n) (p .«right_tolerances»)) (take k (p .trial))
+    caseWith (p .n) (p .exponent) (p .rounds) (front (p .n * p .n) (p .n) (lists p)) (take k (p .trial))
 
 pub record Small (p : Stored) : Type 0 where
-  pub n-small : p .n ≤ mostTanks
-  pub square : p .n * p .n ≤ 64
+  pub rows : RowsRoom (p .n) (lists p)
+  pub square : p .n * p .n ≤ mostCoefficients
   pub trial-count : trialCount (p .rounds) (p .n) ≤ mostTanks
-  pub la : p .n * p .n ≤ length (p .coefficients)
-  pub lt : p .n * p .n ≤ length (p .tolerances)
-  pub lb : p .n ≤ length (p .«right_sides»)
-  pub lf : p .n ≤ length (p .«right_tolerances»)
-  pub ly : trialCount (p .rounds) (p .n) ≤ length (p .trial)
+  pub trial : trialCount (p .rounds) (p .n) ≤ length (p .trial)
 
 module _ (s : List ℕ) (p : Stored) (w : Whole (decode s) p) where
   abbrev c : Case
@@ -73,29 +75,18 @@ module _ (s : List ℕ) (p : Stored) (w : Whole (decode s) p) where
   small =
       rw (w .held)
       (record {
-        n-small = fine .limits .small;
+        rows = record { small = fine .limits .small; room = room-over (c .rows) places (counts (fine .rows)) };
         square = square-fits _ (fine .limits .small);
         trial-count = omega (arith, fine .limits .small, brought-most (c .rounds) (c .n));
-        la = padded-holds (pos 0) 64 (c .n * c .n) (c .coefficients) (fine .lists .la);
-        lt = padded-holds 0 64 (c .n * c .n) (c .tolerances) (fine .lists .lt);
-        lb = padded-holds (pos 0) 8 (c .n) (c .right-sides) (fine .lists .lb ∙ mul-one (c .n));
-        lf = padded-holds 0 8 (c .n) (c .right-tolerances) (fine .lists .lf ∙ mul-one (c .n));
-        ly = padded-holds (pos 0) 8 (trialCount (c .rounds) (c .n)) (c .trial) (fine .trial-counted);
+        trial = padded-holds (pos 0) mostTanks _ (c .trial) (fine .trial .count);
       })
 
   given-is : (k : ℕ) → k ≡ trialCount (p .rounds) (p .n) → handed p k ≡ c
   unfolding stored
   given-is k q =
-      let l = fine .lists in
       ap (handed p) q
       ∙ ap (λ x. handed x (trialCount (x .rounds) (x .n))) (w .held)
-      ∙ rw (
-        take-padded (pos 0) 64 (c .n * c .n) (c .coefficients) (l .la),
-        take-padded 0 64 (c .n * c .n) (c .tolerances) (l .lt),
-        take-padded (pos 0) 8 (c .n) (c .right-sides) (l .lb ∙ mul-one (c .n)),
-        take-padded 0 8 (c .n) (c .right-tolerances) (l .lf ∙ mul-one (c .n)),
-        take-padded (pos 0) 8 (trialCount (c .rounds) (c .n)) (c .trial) (fine .trial-counted),
-      )
+      ∙ rw (front-over (c .rows) places (counts (fine .rows)), take-padded (pos 0) mostTanks _ (c .trial) (fine .trial .count))
 
   pub again : (k : ℕ) → k ≡ trialCount (p .rounds) (p .n) → Bytes s → (out : List ℕ) → write (handed p k) out ≡ writtenAgain (decode s) s out
   again k q bs out = rw (given-is k q, w .decoded) (read-written s c out bs (w .decoded))

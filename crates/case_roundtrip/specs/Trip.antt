@@ -2,26 +2,21 @@
 use mathlib.Core.List.{List}
 use Prim.Native.Nat.{ℕ}
 use lib.ListN.{length}
-use Rattle.outcome.specs.declared.Status.{Status}
 use Rattle.outcome.specs.declared.Status.the-variants.{Accepted, Refused}
 use Rattle.casefile.specs.declared.Reading.{Reading}
 use Rattle.casefile.specs.Case.{Case}
 use Rattle.casefile.specs.Layout.{longestCase}
-use Rattle.casefile.specs.Decode.{Decoded, accepted, refused, reading}
+use Rattle.casefile.specs.Decode.{Decoded, accepted, refused, decoded, reading}
 use Rattle.casefile.specs.Write.{Written, filed, inRoom, writeStatus, write}
-
--- "what the writer wrote into any buffer is read back as what was meant"; where it refused, the refusal
-abbrev pub readBack : Status → Case → Reading
-readBack Accepted c = reading (accepted c)
-readBack (Refused r) c = reading (refused r)
 
 -- what was read back, and what the buffer holds
 pub record ReadBack : Type 0 where
   pub read : Reading
   pub buffer : List ℕ
 
+-- "what the writer wrote into any buffer is read back as what was meant"; where it refused, the refusal
 abbrev pub writtenAndRead : Case → List ℕ → ReadBack
-writtenAndRead c out = record { read = readBack (writeStatus c (length out)) c; buffer = write c out .buffer }
+writtenAndRead c out = record { read = reading (decoded (writeStatus c (length out)) c); buffer = write c out .buffer }
 
 abbrev pub comesBack : Reading → List ℕ → ReadBack
 comesBack read buffer = record { read = read; buffer = buffer }

@@ -44,7 +44,7 @@ module _ (c : Case) (g : Good c) where
       let l0 : length H ≡ rowsAt = length-field headTag v in
       let l1 : length (H ++ R) ≡ tail = length-append H R ∙ omega (arith, length-rows-in c g) in
       let l2 : length ((H ++ R) ++ T) ≡ end =
-      length-append (H ++ R) T ∙ omega (arith, length-trial (c .rounds) (c .n) (c .trial) (g .trial-counted)) in
+      length-append (H ++ R) T ∙ omega (arith, length-trial (c .rounds) (c .n) (c .trial) (g .trial .count)) in
       let p1 = then out x0 H R rowsAt y1 e0 l0 e1 in
       let p2 = then out (put x0 rowsAt y1) (H ++ R) T tail y2 p1 l1 e2 in
       let p3 = then out (put (put x0 rowsAt y1) tail y2) ((H ++ R) ++ T) endField end y3 p2 l2 e3 in

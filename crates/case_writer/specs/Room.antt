@@ -4,7 +4,8 @@ use mathlib.Core.List.{List}
 use Prim.Native.Nat.{ℕ, _≤_}
 use lib.ListN.{length}
 use lib.IntN.{ℤ}
-use Rattle.casefile.specs.Case.{mostTanks, HeadSmall, trialCount}
+use Rattle.limits.specs.Limits.{mostTanks}
+use Rattle.casefile.specs.Case.{HeadSmall, trialCount}
 use Rattle.casefile.specs.Layout.{rowsAt, trialSize}
 
 pub record HeadRoom (out : List ℕ) (n exponent rounds : ℕ) : Type 0 where

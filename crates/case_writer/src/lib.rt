@@ -5,7 +5,8 @@ ghost use lib.ListN.{length};
 ghost use Rattle.outcome.specs.declared.Status.the-variants.{Accepted};
 ghost use Rattle.buffer.specs.Buffer.{onto};
 ghost use Rattle.fields.specs.Field.{field};
-ghost use Rattle.casefile.specs.Case.{mostTanks, given, counted, figuresFine, caseStatus};
+ghost use Rattle.limits.specs.Limits.{mostTanks};
+ghost use Rattle.casefile.specs.Case.{given, counted, figuresFine, caseStatus};
 ghost use Rattle.casefile.specs.Layout.{headTag, headValue, longestCase, encode, trialBytes};
 ghost use Rattle.casefile.specs.Write.{write, leaves};
 ghost use Rattle.case_writer.specs.Room.{HeadRoom, TrialRoom};
@@ -46,19 +47,19 @@ fn counts_fine(
 fn figures_fine(a: &[i16], t: &[u16], b: &[i32], f: &[u32], y: &[i32]) -> bool
     ensures { λ r. ⌜ r ≡ figuresFine (given 0 0 0 (now (a .entry)) (now (t .entry)) (now (b .entry)) (now (f .entry)) (now (y .entry))) ⌝ }
 {
-    if !figures::all_i16(a, casefile::COEFFICIENT_LIMIT) {
+    if !figures::all_i16(a, limits::COEFFICIENT_LIMIT) {
         return false;
     }
-    if !figures::all_u16(t, casefile::TOLERANCE_LIMIT) {
+    if !figures::all_u16(t, limits::TOLERANCE_LIMIT) {
         return false;
     }
-    if !figures::all_i32(b, casefile::RIGHT_SIDE_LIMIT) {
+    if !figures::all_i32(b, limits::RIGHT_SIDE_LIMIT) {
         return false;
     }
-    if !figures::all_u32(f, casefile::RIGHT_TOLERANCE_LIMIT) {
+    if !figures::all_u32(f, limits::RIGHT_TOLERANCE_LIMIT) {
         return false;
     }
-    figures::all_i32(y, casefile::TRIAL_LIMIT)
+    figures::all_i32(y, limits::TRIAL_LIMIT)
 }
 
 // The first refusal of a case that is to be written, or none.
@@ -80,10 +81,7 @@ fn check_case(
     if !counts_fine(n, rounds, a, t, b, f, y) {
         return Status::Refused(Refusal::WrongLength);
     }
-    if !figures_fine(a, t, b, f, y) {
-        return Status::Refused(Refusal::OutsideLimits);
-    }
-    Status::Accepted
+    outcome::check(figures_fine(a, t, b, f, y), Refusal::OutsideLimits)
 }
 
 // The head's field, over the front of out.

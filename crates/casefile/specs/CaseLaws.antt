@@ -3,96 +3,103 @@
 use mathlib.Core.Path.{_≡_, refl, sym, _∙_, subst}
 use mathlib.Core.List.{List, [], _∷_, _++_, append-nil, map}
 use mathlib.Core.Bool.{true}
-use Prim.Native.Nat.{ℕ, zero, suc, _+_, _*_, _≤_}
+use Prim.Native.Nat.{ℕ, _+_, _*_, _≤_}
 use native.Mathlib.Omega.{arith}
-use native.Mathlib.Nat.{mul-one}
-use lib.ListN.{length, take, length-append}
-use lib.Seq.{drop-cons}
+use lib.ListN.{length, take, drop, length-append}
+use lib.Seq.{drop-cons, drop-drop, drop-at}
 use lib.Dec.{leb, eqb}
-use borrow.Author.Tests.{leb-true, eqb-true, eq-eqb}
+use borrow.Author.Tests.{leb-true, le-leb, eqb-true, eq-eqb}
 use Rattle.outcome.specs.declared.Refusal.the-variants.{WrongLength, OutsideLimits}
 use Rattle.outcome.specs.declared.Status.{Status}
 use Rattle.outcome.specs.declared.Status.the-variants.{Accepted, Refused}
-use Rattle.outcome.specs.Outcome.{check}
-use Rattle.outcome.specs.Laws.{check-accepted, first-accepted, first-check}
+use Rattle.outcome.specs.Laws.{check-accepted, check-then, first-accepted, first-check}
 use Rattle.bigendian.specs.Number.{bytes}
 use Rattle.bigendian.specs.NumberLaws.{Bytes, bytes-drop}
 use Rattle.buffer.specs.Buffer.{joined}
 use Rattle.buffer.specs.RunLaws.{joined-append, joined-map}
-use Rattle.figures.specs.Figures.{upTo, within, all}
-use Rattle.figures.specs.FigureLaws.{and-true, length-items}
-use Rattle.fields.specs.Field.{headerSize, field, endTag, endSize, endField, valueOf, afterField, fieldStatus}
+use Rattle.figures.specs.Figures.{within}
+use Rattle.figures.specs.ItemLaws.{length-items}
+use Rattle.figures.specs.FigureLaws.{and-true}
+use Rattle.fields.specs.Field.{headerSize, field, endTag, endSize, endField, valueOf, fieldStatus}
 use Rattle.fields.specs.FieldLaws.{length-field, field-accepted, field-room, field-is}
-use Rattle.casefile.specs.Case.{Case, mostTanks, mostExponent, coefficientLimit, toleranceLimit, rightSideLimit, rightToleranceLimit, trialLimit, headFine, HeadSmall, trialCount, counted, listsFine, figuresFine, caseStatus}
+use Rattle.limits.specs.Limits.{mostTanks, mostExponent, mostRounds, trialLimit}
+use Rattle.casefile.specs.Block.{Counts}
+use Rattle.casefile.specs.Case.{Case, headFine, HeadSmall, trialCount, counted, rowsFine, figuresFine, caseStatus}
 use Rattle.casefile.specs.Layout.{headTag, headLength, headValue, nAt, exponentAt, roundsAt, rowsAt, rowSize, rowsEnd, longestCase, rowField, rowsIn, trialLength, trialSize, trialFields, trialBytes, encode}
-use Rattle.casefile.specs.Decode.{headTanks, headExponent, headRounds, headStatus, rowsStatus, rowsOf, trialStatus, afterTrial, endStatus, tailOf, inputStatus, caseOf, accepted, decoded, decode}
-use Rattle.casefile.specs.RowLaws.{lists-fine}
-use Rattle.casefile.specs.RowsLaws.{Rows, rows-back, rows-sound, rows-same, joined-length, joined-fine, length-row-fields, rows-after, rows-fit, Lists, split-sound, length-split, joined-split, split-joined}
-use Rattle.casefile.specs.TailLaws.{brought-most, length-trial, trial-back, trial-read, trial-same, end-back, end-same}
+use Rattle.casefile.specs.Decode.{headTanks, headExponent, headRounds, headStatus, rowsStatus, rowsOf, trialStatus, endStatus, tailStatus, afterHead, afterRows, inputStatus, caseOf, accepted, decoded, decode}
+use Rattle.casefile.specs.BlockLaws.{Sound, SoundBlock, sound, sound-fine, Rows, split-sound, length-split, together-split, split-together, together-sound}
+use Rattle.casefile.specs.RowsLaws.{length-row-fields, rows-back, rows-accepted, rows-sound, rows-same, rows-fit}
+use Rattle.casefile.specs.TailLaws.{brought-most, length-trial, trial-back, trial-sound, trial-same, end-back, end-same}
 
 -- ---- what a head that is not refused has
 
-pub head-small : (n exponent rounds : ℕ) → headFine n exponent rounds ≡ true → HeadSmall n exponent rounds
-head-small n exponent rounds h =
-    let h1 = and-true (leb 1 n) _ h in
-    let h2 = and-true (leb n mostTanks) _ (h1 .1) in
-    let h3 = and-true (leb exponent mostExponent) _ (h2 .1) in
-    record {
-      least = leb-true _ _ (h1 .0);
-      small = leb-true _ _ (h2 .0);
-      exponent-small = leb-true _ _ (h3 .0);
-      rounds-small = leb-true _ _ (h3 .1);
-    }
+module _ (n exponent rounds : ℕ) where
+  pub head-small : headFine n exponent rounds ≡ true → HeadSmall n exponent rounds
+  head-small h =
+      let h1 = and-true (leb 1 n) _ h in
+      let h2 = and-true (leb n mostTanks) _ (h1 .1) in
+      let h3 = and-true (leb exponent mostExponent) _ (h2 .1) in
+      record {
+        least = leb-true _ _ (h1 .0);
+        small = leb-true _ _ (h2 .0);
+        exponent-small = leb-true _ _ (h3 .0);
+        rounds-small = leb-true _ _ (h3 .1);
+      }
+
+  small-head : HeadSmall n exponent rounds → headFine n exponent rounds ≡ true
+  small-head h =
+      rw (le-leb 1 n (h .least), le-leb n mostTanks (h .small), le-leb exponent mostExponent (h .exponent-small), le-leb rounds mostRounds (h .rounds-small))
 
 module _ (s : List ℕ) (e : headStatus s ≡ Accepted) where
   pub record HeadParts : Type 0 where
     pub field-fine : fieldStatus headTag headLength s ≡ Accepted
-    pub figures-fine : headFine (headTanks s) (headExponent s) (headRounds s) ≡ true
+    pub limits : HeadSmall (headTanks s) (headExponent s) (headRounds s)
 
   pub head-parts : HeadParts
   unfolding headStatus
   head-parts =
       let w = first-check (fieldStatus headTag headLength s) _ OutsideLimits e in
-      record { field-fine = w .0; figures-fine = w .1 }
+      record { field-fine = w .0; limits = head-small _ _ _ (w .1) }
 
 -- ---- what a case that is not refused has
 
 pub record Good (c : Case) : Type 0 where
-  pub head : headFine (c .n) (c .exponent) (c .rounds) ≡ true
   pub limits : HeadSmall (c .n) (c .exponent) (c .rounds)
-  pub lists : Lists (c .n) (c .n) (c .coefficients) (c .tolerances) (c .right-sides) (c .right-tolerances)
-  pub trial-counted : length (c .trial) ≡ trialCount (c .rounds) (c .n)
-  pub trial-fine : all (within trialLimit) (c .trial) ≡ true
+  pub rows : SoundBlock (c .n * c .n) (c .n) (c .rows)
+  pub trial : Sound (within trialLimit) (trialCount (c .rounds) (c .n)) (c .trial)
 
-pub good : (c : Case) → caseStatus c ≡ Accepted → Good c
-unfolding caseStatus counted figuresFine
-good c e =
-    let w1 = first-accepted (check (headFine (c .n) (c .exponent) (c .rounds)) OutsideLimits) _ e in
-    let w2 = first-accepted (check (counted c) WrongLength) _ (w1 .1) in
-    let h0 = check-accepted _ OutsideLimits (w1 .0) in
-    let c0 = check-accepted (counted c) WrongLength (w2 .0) in
-    let c1 = and-true (eqb (length (c .coefficients)) (c .n * c .n)) _ c0 in
-    let c2 = and-true (eqb (length (c .tolerances)) (c .n * c .n)) _ (c1 .1) in
-    let c3 = and-true (eqb (length (c .right-sides)) (c .n)) _ (c2 .1) in
-    let c4 = and-true (eqb (length (c .right-tolerances)) (c .n)) _ (c3 .1) in
-    let f0 = and-true (listsFine (c .coefficients) (c .tolerances) (c .right-sides) (c .right-tolerances)) _ (check-accepted (figuresFine c) OutsideLimits (w2 .1)) in
-    let f = lists-fine _ _ _ _ (f0 .0) in
-    record {
-      head = h0;
-      limits = head-small (c .n) (c .exponent) (c .rounds) h0;
-      lists = record {
-        la = eqb-true _ _ (c1 .0);
-        lt = eqb-true _ _ (c2 .0);
-        lb = eqb-true _ _ (c3 .0) ∙ sym (mul-one (c .n));
-        lf = eqb-true _ _ (c4 .0) ∙ sym (mul-one (c .n));
-        fa = f .0;
-        ft = f .1;
-        fb = f .2;
-        ff = f .3;
-      };
-      trial-counted = eqb-true _ _ (c4 .1);
-      trial-fine = f0 .1;
-    }
+module _ (c : Case) where
+  pub good : caseStatus c ≡ Accepted → Good c
+  unfolding caseStatus counted figuresFine
+  good e =
+      let w1 = check-then (headFine (c .n) (c .exponent) (c .rounds)) OutsideLimits _ e in
+      let w2 = check-then (counted c) WrongLength _ (w1 .1) in
+      let c1 = and-true (eqb (length (c .rows .coefficients)) (c .n * c .n)) _ (w2 .0) in
+      let c2 = and-true (eqb (length (c .rows .tolerances)) (c .n * c .n)) _ (c1 .1) in
+      let c3 = and-true (eqb (length (c .rows .right-sides)) (c .n)) _ (c2 .1) in
+      let c4 = and-true (eqb (length (c .rows .right-tolerances)) (c .n)) _ (c3 .1) in
+      let f = and-true (rowsFine (c .rows)) _ (check-accepted (figuresFine c) OutsideLimits (w2 .1)) in
+      let counts : Counts (c .n * c .n) (c .n) (c .rows) =
+      record { la = eqb-true _ _ (c1 .0); lt = eqb-true _ _ (c2 .0); lb = eqb-true _ _ (c3 .0); lf = eqb-true _ _ (c4 .0) } in
+      record {
+        limits = head-small (c .n) (c .exponent) (c .rounds) (w1 .0);
+        rows = sound counts (f .0);
+        trial = record { count = eqb-true _ _ (c4 .1); fine = f .1 };
+      }
+
+  pub accepts : Good c → caseStatus c ≡ Accepted
+  unfolding caseStatus counted figuresFine
+  accepts g =
+      rw (
+        small-head _ _ _ (g .limits),
+        eq-eqb _ _ (g .rows .a .count),
+        eq-eqb _ _ (g .rows .t .count),
+        eq-eqb _ _ (g .rows .b .count),
+        eq-eqb _ _ (g .rows .f .count),
+        eq-eqb _ _ (g .trial .count),
+        sound-fine (g .rows),
+        g .trial .fine,
+      )
 
 -- ---- the encoding, field after field
 
@@ -109,37 +116,39 @@ encode-is c =
 
 -- ---- encoded and decoded
 
-head-back : (n x k : ℕ) (rest : List ℕ) → headFine n x k ≡ true → headStatus (field headTag (headValue n x k) ++ rest) ≡ Accepted
+head-back : (n x k : ℕ) (rest : List ℕ) → HeadSmall n x k → headStatus (field headTag (headValue n x k) ++ rest) ≡ Accepted
 unfolding headStatus field bytes
-head-back n x k rest h = rw (field-accepted headTag (headValue n x k) rest headLength refl (omega arith), h)
+head-back n x k rest h = rw (field-accepted headTag (headValue n x k) rest headLength refl (omega arith), small-head n x k h)
+
+-- what follows the rows
+pub after-rows : (n : ℕ) (s : List ℕ) → drop (rowsEnd n) s ≡ drop (n * rowSize n) (drop rowsAt s)
+after-rows n s = sym (drop-drop (n * rowSize n) rowsAt s)
 
 pub decode-encode : (c : Case) → caseStatus c ≡ Accepted → decode (encode c) ≡ accepted c
-unfolding decode inputStatus caseOf field bytes
+unfolding decode inputStatus tailStatus caseOf field bytes
 decode-encode c e =
     let g = good c e in
     let T : List ℕ = trialBytes (c .rounds) (c .trial) ++ endField in
-    let rows = split-sound (c .n) (c .n) _ _ _ _ (g .lists) in
-    let b = rows-back (c .n) (g .limits .small) rows T in
-    let m = length-split (c .n) (c .n) (c .coefficients) (c .tolerances) (c .right-sides) (c .right-tolerances) in
-    let accepted-rows = rw m at (b .accepted) in
-    let read-rows = rw m at (b .read) in
-    let after = rw m at (rows-after (c .n) rows T) in
-    let t = trial-back (c .rounds) (c .n) (c .trial) endField (g .limits .small) (g .trial-counted) (g .trial-fine) in
-    let j = joined-split (c .n) (c .n) _ _ _ _ (g .lists) in
+    let R : List ℕ = joined rowField (rowsIn c) in
+    let H : List ℕ = field headTag (headValue (c .n) (c .exponent) (c .rounds)) in
+    let rows = split-sound (c .n) (c .n) (c .rows) (g .rows) in
+    let m = length-split (c .n) (c .n) (c .rows) in
+    let accepted-rows = rw m at (rows-accepted (c .n) (g .limits .small) rows T) in
+    let read-rows = rw m at (rows-back (c .n) rows T) in
+    let tail : drop (rowsEnd (c .n)) (H ++ (R ++ T)) ≡ T =
+    after-rows (c .n) (H ++ (R ++ T)) ∙ drop-at R T (c .n * rowSize (c .n)) (rw m at (length-row-fields (c .n) rows)) in
+    let t = trial-back (c .rounds) (c .n) (c .trial) endField (g .limits .small) (g .trial) in
     rw (
       encode-is c,
-      head-back (c .n) (c .exponent) (c .rounds) (joined rowField (rowsIn c) ++ T) (g .head),
+      head-back (c .n) (c .exponent) (c .rounds) (R ++ T) (g .limits),
       accepted-rows,
-      after,
+      tail,
       t .accepted,
       t .after,
       end-back,
       read-rows,
       t .read,
-      j .ja,
-      j .jt,
-      j .jb,
-      j .jf,
+      together-split (c .n) (c .n) (c .rows) (g .rows),
     )
 
 -- ---- what decodes
@@ -161,49 +170,31 @@ module _ (s : List ℕ) (e : inputStatus s ≡ Accepted) where
 
   pub record Parts : Type 0 where
     pub head : headStatus s ≡ Accepted
-    pub rows : rowsStatus N N (afterField headLength s) ≡ Accepted
-    pub trial : trialStatus K N (tailOf s) ≡ Accepted
-    pub end : endStatus (afterTrial K N (tailOf s)) ≡ Accepted
+    pub rows : rowsStatus N N (afterHead s) ≡ Accepted
+    pub trial : trialStatus K N (afterRows s) ≡ Accepted
+    pub end : endStatus (drop (trialSize K N) (afterRows s)) ≡ Accepted
 
   pub parts : Parts
-  unfolding inputStatus
+  unfolding inputStatus tailStatus
   parts =
       let w1 = first-accepted (headStatus s) _ e in
-      let w2 = first-accepted (rowsStatus N N (afterField headLength s)) _ (w1 .1) in
-      let w3 = first-accepted (trialStatus K N (tailOf s)) _ (w2 .1) in
+      let w2 = first-accepted (rowsStatus N N (afterHead s)) _ (w1 .1) in
+      let w3 = first-accepted (trialStatus K N (afterRows s)) _ (w2 .1) in
       record { head = w1 .0; rows = w2 .0; trial = w3 .0; end = w3 .1 }
 
   head-is : HeadParts s (parts .head)
   head-is = head-parts s (parts .head)
 
-  rows-are : Rows N (rowsOf N N (afterField headLength s))
-  rows-are = rows-sound N N (afterField headLength s) (parts .rows)
+  rows-are : Rows N (rowsOf N N (afterHead s))
+  rows-are = rows-sound N N (afterHead s) (parts .rows)
 
-  rows-count : length (rowsOf N N (afterField headLength s)) ≡ N
-  rows-count = length-items _ _ N (afterField headLength s)
+  rows-count : length (rowsOf N N (afterHead s)) ≡ N
+  rows-count = length-items _ _ N (afterHead s)
 
   -- what decodes is within the limits
-  case-fine : caseStatus (caseOf s) ≡ Accepted
-  unfolding caseStatus counted figuresFine caseOf
-  case-fine =
-      let t = trial-read K N (tailOf s) (parts .trial) in
-      let la = rw rows-count at (joined-length N (λ r. r .coefficients) N (λ r p. p .coefficient-count) rows-are) in
-      let lt = rw rows-count at (joined-length N (λ r. r .tolerances) N (λ r p. p .tolerance-count) rows-are) in
-      let lb = rw rows-count at (joined-length N (λ r. r .right-side) 1 (λ r p. p .right-count) rows-are) in
-      let lf = rw rows-count at (joined-length N (λ r. r .right-tolerance) 1 (λ r p. p .right-tolerance-count) rows-are) in
-      rw (
-        head-is .figures-fine,
-        eq-eqb _ _ la,
-        eq-eqb _ _ lt,
-        eq-eqb _ _ (lb ∙ mul-one N),
-        eq-eqb _ _ (lf ∙ mul-one N),
-        eq-eqb _ _ (t .count),
-        joined-fine N (λ r. r .coefficients) (within coefficientLimit) (λ r p. p .coefficients-fine) rows-are,
-        joined-fine N (λ r. r .tolerances) (upTo toleranceLimit) (λ r p. p .tolerances-fine) rows-are,
-        joined-fine N (λ r. r .right-side) (within rightSideLimit) (λ r p. p .right-fine) rows-are,
-        joined-fine N (λ r. r .right-tolerance) (upTo rightToleranceLimit) (λ r p. p .right-tolerance-fine) rows-are,
-        t .fine,
-      )
+  case-good : Good (caseOf s)
+  unfolding caseOf
+  case-good = record { limits = head-is .limits; rows = rw rows-count at (together-sound N rows-are); trial = trial-sound K N (afterRows s) (parts .trial) }
 
   head-value : take headLength (valueOf s) ≡ headValue N (headExponent s) K
   head-value =
@@ -213,26 +204,20 @@ module _ (s : List ℕ) (e : inputStatus s ≡ Accepted) where
   case-bytes : Bytes s → encode (caseOf s) ≡ s
   unfolding caseOf
   case-bytes bs =
-      let s1 : List ℕ = afterField headLength s in
-      let b1 = bytes-drop rowsAt bs in
-      let b2 = bytes-drop (N * rowSize N) b1 in
-      let split-is = rw rows-count at (split-joined N rows-are) in
+      let b = bytes-drop (rowsEnd N) bs in
       encode-is (caseOf s)
       ∙ rw (
-        split-is,
-        end-same (afterTrial K N (tailOf s)) (parts .end) (after-bytes K b2),
-        trial-same K N (tailOf s) (parts .trial) b2,
-        rows-same N N (afterField headLength s) (parts .rows) b1,
+        rw rows-count at (split-together N rows-are),
+        end-same _ (parts .end) (bytes-drop (trialSize K N) b),
+        trial-same K N (afterRows s) (parts .trial) b,
+        after-rows N s,
+        rows-same N N (afterHead s) (parts .rows) (bytes-drop rowsAt bs),
         ← head-value,
       )
       (field-is headTag headLength s (head-is .field-fine) bs)
-    where
-      after-bytes : (k : ℕ) → Bytes (tailOf s) → Bytes (afterTrial k N (tailOf s))
-      after-bytes zero b = unfold afterTrial in bytes-drop (headerSize + trialLength N) b
-      after-bytes (suc k) b = unfold afterTrial in b
 
 pub decode-fine : (s : List ℕ) (c : Case) → decode s ≡ accepted c → caseStatus c ≡ Accepted
-decode-fine s c e = let w = decodes s c e in subst (λ (d : Case). caseStatus d ≡ Accepted) (w .1) (case-fine s (w .0))
+decode-fine s c e = let w = decodes s c e in subst (λ (d : Case). caseStatus d ≡ Accepted) (w .1) (accepts (caseOf s) (case-good s (w .0)))
 
 pub encode-decode : (s : List ℕ) (c : Case) → Bytes s → decode s ≡ accepted c → encode c ≡ s
 encode-decode s c bs e = let w = decodes s c e in subst (λ (d : Case). encode d ≡ s) (w .1) (case-bytes s (w .0) bs)
@@ -240,9 +225,7 @@ encode-decode s c bs e = let w = decodes s c e in subst (λ (d : Case). encode d
 -- ---- lengths
 
 pub length-rows-in : (c : Case) → Good c → length (joined rowField (rowsIn c)) ≡ c .n * rowSize (c .n)
-length-rows-in c g =
-    let r = length-row-fields (c .n) (split-sound (c .n) (c .n) _ _ _ _ (g .lists)) in
-    rw (length-split (c .n) (c .n) (c .coefficients) (c .tolerances) (c .right-sides) (c .right-tolerances)) at r
+length-rows-in c g = rw (length-split (c .n) (c .n) (c .rows)) at (length-row-fields (c .n) (split-sound (c .n) (c .n) (c .rows) (g .rows)))
 
 pub length-encode : (c : Case) → Good c
     → length (encode c) ≡ rowsEnd (c .n) + (trialSize (c .rounds) (c .n) + endSize)
@@ -252,7 +235,7 @@ length-encode c g =
     (rw (
       length-field headTag (headValue (c .n) (c .exponent) (c .rounds)),
       length-rows-in c g,
-      length-trial (c .rounds) (c .n) (c .trial) (g .trial-counted),
+      length-trial (c .rounds) (c .n) (c .trial) (g .trial .count),
       length-field endTag [],
     )
     (omega arith)))

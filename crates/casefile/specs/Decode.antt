@@ -1,7 +1,6 @@
 -- What reading bytes as a case gives: the first refusal in document 01's order ("fields are taken from the front, and at each field 2 to 6 in turn"), or the case; and the case
 -- as the program holds it.
-use Prim.Native.Nat.{ℕ, zero, suc, _*_}
-use mathlib.Core.Bool.{Bool}
+use Prim.Native.Nat.{ℕ, zero, suc}
 use mathlib.Core.List.{List, []}
 use lib.ListN.{length, getD, drop, replicate}
 use lib.Dec.{eqb}
@@ -11,11 +10,13 @@ use Rattle.outcome.specs.declared.Refusal.the-variants.{OutsideLimits, Trailing
 use Rattle.outcome.specs.declared.Status.{Status}
 use Rattle.outcome.specs.declared.Status.the-variants.{Accepted, Refused}
 use Rattle.outcome.specs.Outcome.{check, first}
-use Rattle.buffer.specs.Buffer.{onto, joined}
+use Rattle.buffer.specs.Buffer.{onto}
 use Rattle.figures.specs.Figures.{i16, u16, i32, u32, within, items, figures, after, all}
 use Rattle.fields.specs.Field.{endTag, endLength, endSize, valueOf, afterField, fieldStatus}
-use Rattle.casefile.specs.Case.{Case, given, mostTanks, trialLimit, headFine, whereBrought, listsFine}
-use Rattle.casefile.specs.Layout.{headTag, headLength, nAt, exponentAt, roundsAt, rowTag, rowLength, rowSize, trialTag, trialKind, trialLength, Row, rowMade}
+use Rattle.limits.specs.Limits.{mostTanks, mostCoefficients, trialLimit}
+use Rattle.casefile.specs.Block.{Block, block, over, together}
+use Rattle.casefile.specs.Case.{Case, caseWith, given, headFine, whereBrought, rowsFine}
+use Rattle.casefile.specs.Layout.{headTag, headLength, nAt, exponentAt, roundsAt, rowsAt, rowTag, rowLength, rowSize, rowsEnd, trialTag, trialKind, trialLength, trialSize}
 use Rattle.casefile.specs.declared.Case.{Case as Stored}
 use Rattle.casefile.specs.declared.Reading.{Reading}
 
@@ -38,33 +39,28 @@ headStatus s =
 -- ---- rows
 
 -- the row whose value stands at the front of v
-unfoldable pub rowOf : ℕ → List ℕ → Row
+unfoldable pub rowOf : ℕ → List ℕ → Block
 rowOf n v =
-    rowMade
+    block
     (figures i16 n v)
     (figures u16 n (after i16 n v))
     (figures i32 1 (after u16 n (after i16 n v)))
     (figures u32 1 (after i32 1 (after u16 n (after i16 n v))))
 
-unfoldable pub rowFine : Row → Bool
-rowFine r = listsFine (r .coefficients) (r .tolerances) (r .right-side) (r .right-tolerance)
+-- the row whose field stands at the front of s
+abbrev pub rowAt : ℕ → List ℕ → Block
+rowAt n s = rowOf n (valueOf s)
 
 unfoldable pub rowStatus : ℕ → List ℕ → Status
-rowStatus n s = first (fieldStatus rowTag (rowLength n) s) (check (rowFine (rowOf n (valueOf s))) OutsideLimits)
+rowStatus n s = first (fieldStatus rowTag (rowLength n) s) (check (rowsFine (rowAt n s)) OutsideLimits)
 
--- m rows, one field after another: the first refusal, the rows, and what follows them
+-- m rows, one field after another: the first refusal, and the rows
 unfoldable pub rowsStatus : ℕ → ℕ → List ℕ → Status
 rowsStatus n zero s = Accepted
 rowsStatus n (suc m) s = first (rowStatus n s) (rowsStatus n m (afterField (rowLength n) s))
 
-abbrev pub rowAt : ℕ → List ℕ → Row
-rowAt n s = rowOf n (valueOf s)
-
-abbrev pub rowsOf : ℕ → ℕ → List ℕ → List Row
+abbrev pub rowsOf : ℕ → ℕ → List ℕ → List Block
 rowsOf n m s = items (rowSize n) (rowAt n) m s
-
-abbrev pub afterRows : ℕ → ℕ → List ℕ → List ℕ
-afterRows n m s = drop (m * rowSize n) s
 
 -- ---- the trial, where K is 0
 
@@ -77,42 +73,34 @@ trialStatus k n s =
 unfoldable pub trialOf : ℕ → ℕ → List ℕ → List ℤ
 trialOf k n s = whereBrought k (figures trialKind n (valueOf s)) []
 
-unfoldable pub afterTrial : ℕ → ℕ → List ℕ → List ℕ
-afterTrial k n s = whereBrought k (afterField (trialLength n) s) s
-
 -- ---- the end: "Nothing follows."
 
 unfoldable pub endStatus : List ℕ → Status
 endStatus s = first (fieldStatus endTag endLength s) (check (eqb (length s) endSize) TrailingBytes)
 
+-- what follows the rows: the trial and the end
+unfoldable pub tailStatus : ℕ → ℕ → List ℕ → Status
+tailStatus k n s = first (trialStatus k n s) (endStatus (drop (trialSize k n) s))
+
 -- ---- the whole
 
 -- what is left after the head, and after the rows
-abbrev pub tailOf : List ℕ → List ℕ
-tailOf s = afterRows (headTanks s) (headTanks s) (afterField headLength s)
+abbrev pub afterHead : List ℕ → List ℕ
+afterHead s = drop rowsAt s
+
+abbrev pub afterRows : List ℕ → List ℕ
+afterRows s = drop (rowsEnd (headTanks s)) s
 
 unfoldable pub inputStatus : List ℕ → Status
 inputStatus s =
     first (headStatus s)
-    (first (rowsStatus (headTanks s) (headTanks s) (afterField headLength s))
-    (first (trialStatus (headRounds s) (headTanks s) (tailOf s))
-    (endStatus (afterTrial (headRounds s) (headTanks s) (tailOf s)))))
-
--- the case that has these rows
-abbrev pub gathered : ℕ → ℕ → ℕ → List Row → List ℤ → Case
-gathered n exponent rounds rows trial =
-    given n exponent rounds
-    (joined (λ r. r .coefficients) rows)
-    (joined (λ r. r .tolerances) rows)
-    (joined (λ r. r .right-side) rows)
-    (joined (λ r. r .right-tolerance) rows)
-    trial
+    (first (rowsStatus (headTanks s) (headTanks s) (afterHead s)) (tailStatus (headRounds s) (headTanks s) (afterRows s)))
 
 unfoldable pub caseOf : List ℕ → Case
 caseOf s =
-    gathered (headTanks s) (headExponent s) (headRounds s)
-    (rowsOf (headTanks s) (headTanks s) (afterField headLength s))
-    (trialOf (headRounds s) (headTanks s) (tailOf s))
+    caseWith (headTanks s) (headExponent s) (headRounds s)
+    (together (rowsOf (headTanks s) (headTanks s) (afterHead s)))
+    (trialOf (headRounds s) (headTanks s) (afterRows s))
 
 pub data Decoded : Type 0 where
   accepted : Case → Decoded
@@ -131,22 +119,27 @@ decode s = decoded (inputStatus s) (caseOf s)
 abbrev pub padded : {X : Type 0} → ℕ → X → List X → List X
 padded k z l = onto l (replicate k z)
 
+-- places for the rows of any case
+abbrev pub places : Block
+places = block (replicate mostCoefficients (pos 0)) (replicate mostCoefficients 0) (replicate mostTanks (pos 0)) (replicate mostTanks 0)
+
 unfoldable pub stored : Case → Stored
 stored c =
+    let rows : Block = over (c .rows) places in
     record {
       n = c .n;
       exponent = c .exponent;
       rounds = c .rounds;
-      coefficients = padded (mostTanks * mostTanks) (pos 0) (c .coefficients);
-      tolerances = padded (mostTanks * mostTanks) 0 (c .tolerances);
-      «right_sides» = padded mostTanks (pos 0) (c .right-sides);
-      «right_tolerances» = padded mostTanks 0 (c .right-tolerances);
+      coefficients = rows .coefficients;
+      tolerances = rows .tolerances;
+      «right_sides» = rows .right-sides;
+      «right_tolerances» = rows .right-tolerances;
       trial = padded mostTanks (pos 0) (c .trial);
     }
 
 -- the case beside a refusal: all zeros
 abbrev pub noCase : Case
-noCase = gathered 0 0 0 [] []
+noCase = given 0 0 0 [] [] [] [] []
 
 unfoldable pub reading : Decoded → Reading
 reading (accepted c) = record { status = Accepted; case = stored c }

@@ -9,9 +9,10 @@ use Rattle.outcome.specs.declared.Refusal.the-variants.{FieldMissing, WrongTag,
 use Rattle.bigendian.specs.Number.{be, bytes}
 use Rattle.figures.specs.Figures.{items, spread, all}
 use Rattle.fields.specs.Field.{headerSize, field, fieldStatus}
-use Rattle.casefile.specs.Case.{Case, given}
-use Rattle.casefile.specs.Layout.{rowsAt, longestCase, rowBytes, split, encode}
-use Rattle.casefile.specs.Decode.{headStatus, rowOf, rowFine, rowStatus, rowsStatus, trialStatus, trialOf, afterTrial, endStatus, inputStatus, caseOf, Decoded, accepted, refused, decode}
+use Rattle.casefile.specs.Block.{split}
+use Rattle.casefile.specs.Case.{Case, given, rowsFine}
+use Rattle.casefile.specs.Layout.{rowsAt, longestCase, rowBytes, encode}
+use Rattle.casefile.specs.Decode.{headStatus, rowOf, rowStatus, rowsStatus, trialStatus, trialOf, endStatus, tailStatus, inputStatus, caseOf, Decoded, accepted, refused, decode}
 
 -- `01 0003 01 01 01 02 000C 0005 0000 FFFFFFFE 00000000 FF 0000`
 abbrev pub printedBytes : List ℕ
@@ -48,36 +49,27 @@ long =
 
 abbrev longCase : Case
 longCase =
-    record {
-      n = 8;
-      exponent = 3;
-      rounds = 0;
-      coefficients =
-          pos 0 ∷ negsuc 776 ∷ negsuc 1553 ∷ negsuc 2330 ∷ negsuc 3107 ∷ negsuc 3884 ∷ negsuc 4661 ∷ negsuc 5438
-          ∷ pos 1000 ∷ pos 223 ∷ negsuc 553 ∷ negsuc 1330 ∷ negsuc 2107 ∷ negsuc 2884 ∷ negsuc 3661 ∷ negsuc 4438
-          ∷ pos 2000 ∷ pos 1223 ∷ pos 446 ∷ negsuc 330 ∷ negsuc 1107 ∷ negsuc 1884 ∷ negsuc 2661 ∷ negsuc 3438
-          ∷ pos 3000 ∷ pos 2223 ∷ pos 1446 ∷ pos 669 ∷ negsuc 107 ∷ negsuc 884 ∷ negsuc 1661 ∷ negsuc 2438
-          ∷ pos 4000 ∷ pos 3223 ∷ pos 2446 ∷ pos 1669 ∷ pos 892 ∷ pos 115 ∷ negsuc 661 ∷ negsuc 1438
-          ∷ pos 5000 ∷ pos 4223 ∷ pos 3446 ∷ pos 2669 ∷ pos 1892 ∷ pos 1115 ∷ pos 338 ∷ negsuc 438
-          ∷ pos 6000 ∷ pos 5223 ∷ pos 4446 ∷ pos 3669 ∷ pos 2892 ∷ pos 2115 ∷ pos 1338 ∷ pos 561
-          ∷ pos 7000 ∷ pos 6223 ∷ pos 5446 ∷ pos 4669 ∷ pos 3892 ∷ pos 3115 ∷ pos 2338 ∷ pos 1561
-          ∷ [];
-      tolerances =
-          0 ∷ 0 ∷ 0 ∷ 0 ∷ 0 ∷ 0 ∷ 0 ∷ 0 ∷ 0 ∷ 1 ∷ 2 ∷ 3 ∷ 4 ∷ 5 ∷ 6 ∷ 7
-          ∷ 0 ∷ 2 ∷ 4 ∷ 6 ∷ 8 ∷ 10 ∷ 12 ∷ 14 ∷ 0 ∷ 3 ∷ 6 ∷ 9 ∷ 12 ∷ 15 ∷ 18 ∷ 21
-          ∷ 0 ∷ 4 ∷ 8 ∷ 12 ∷ 16 ∷ 20 ∷ 24 ∷ 28 ∷ 0 ∷ 5 ∷ 10 ∷ 15 ∷ 20 ∷ 25 ∷ 30 ∷ 35
-          ∷ 0 ∷ 6 ∷ 12 ∷ 18 ∷ 24 ∷ 30 ∷ 36 ∷ 42 ∷ 0 ∷ 7 ∷ 14 ∷ 21 ∷ 28 ∷ 35 ∷ 42 ∷ 49
-          ∷ [];
-      right-sides =
-          pos 1000000 ∷ pos 1 ∷ negsuc 999997 ∷ negsuc 1999996 ∷ negsuc 2999995 ∷ negsuc 3999994 ∷ negsuc 4999993 ∷ negsuc 5999992
-          ∷ [];
-      right-tolerances =
-          0 ∷ 12345 ∷ 24690 ∷ 37035 ∷ 49380 ∷ 61725 ∷ 74070 ∷ 86415
-          ∷ [];
-      trial =
-          negsuc 2999999 ∷ negsuc 1999999 ∷ negsuc 999999 ∷ pos 0 ∷ pos 1000000 ∷ pos 2000000 ∷ pos 3000000 ∷ pos 4000000
-          ∷ [];
-    }
+    given 8 3 0
+    (pos 0 ∷ negsuc 776 ∷ negsuc 1553 ∷ negsuc 2330 ∷ negsuc 3107 ∷ negsuc 3884 ∷ negsuc 4661 ∷ negsuc 5438
+    ∷ pos 1000 ∷ pos 223 ∷ negsuc 553 ∷ negsuc 1330 ∷ negsuc 2107 ∷ negsuc 2884 ∷ negsuc 3661 ∷ negsuc 4438
+    ∷ pos 2000 ∷ pos 1223 ∷ pos 446 ∷ negsuc 330 ∷ negsuc 1107 ∷ negsuc 1884 ∷ negsuc 2661 ∷ negsuc 3438
+    ∷ pos 3000 ∷ pos 2223 ∷ pos 1446 ∷ pos 669 ∷ negsuc 107 ∷ negsuc 884 ∷ negsuc 1661 ∷ negsuc 2438
+    ∷ pos 4000 ∷ pos 3223 ∷ pos 2446 ∷ pos 1669 ∷ pos 892 ∷ pos 115 ∷ negsuc 661 ∷ negsuc 1438
+    ∷ pos 5000 ∷ pos 4223 ∷ pos 3446 ∷ pos 2669 ∷ pos 1892 ∷ pos 1115 ∷ pos 338 ∷ negsuc 438
+    ∷ pos 6000 ∷ pos 5223 ∷ pos 4446 ∷ pos 3669 ∷ pos 2892 ∷ pos 2115 ∷ pos 1338 ∷ pos 561
+    ∷ pos 7000 ∷ pos 6223 ∷ pos 5446 ∷ pos 4669 ∷ pos 3892 ∷ pos 3115 ∷ pos 2338 ∷ pos 1561
+    ∷ [])
+    (0 ∷ 0 ∷ 0 ∷ 0 ∷ 0 ∷ 0 ∷ 0 ∷ 0 ∷ 0 ∷ 1 ∷ 2 ∷ 3 ∷ 4 ∷ 5 ∷ 6 ∷ 7
+    ∷ 0 ∷ 2 ∷ 4 ∷ 6 ∷ 8 ∷ 10 ∷ 12 ∷ 14 ∷ 0 ∷ 3 ∷ 6 ∷ 9 ∷ 12 ∷ 15 ∷ 18 ∷ 21
+    ∷ 0 ∷ 4 ∷ 8 ∷ 12 ∷ 16 ∷ 20 ∷ 24 ∷ 28 ∷ 0 ∷ 5 ∷ 10 ∷ 15 ∷ 20 ∷ 25 ∷ 30 ∷ 35
+    ∷ 0 ∷ 6 ∷ 12 ∷ 18 ∷ 24 ∷ 30 ∷ 36 ∷ 42 ∷ 0 ∷ 7 ∷ 14 ∷ 21 ∷ 28 ∷ 35 ∷ 42 ∷ 49
+    ∷ [])
+    (pos 1000000 ∷ pos 1 ∷ negsuc 999997 ∷ negsuc 1999996 ∷ negsuc 2999995 ∷ negsuc 3999994 ∷ negsuc 4999993 ∷ negsuc 5999992
+    ∷ [])
+    (0 ∷ 12345 ∷ 24690 ∷ 37035 ∷ 49380 ∷ 61725 ∷ 74070 ∷ 86415
+    ∷ [])
+    (negsuc 2999999 ∷ negsuc 1999999 ∷ negsuc 999999 ∷ pos 0 ∷ pos 1000000 ∷ pos 2000000 ∷ pos 3000000 ∷ pos 4000000
+    ∷ [])
 
 pub long-length : length long ≡ longestCase
 long-length = refl
@@ -125,5 +117,5 @@ answers =
     ∷ []
 
 pub decodings : map decode inputs ≡ answers
-unfolding be items all fieldStatus headStatus rowOf rowFine rowStatus rowsStatus trialStatus trialOf afterTrial endStatus inputStatus caseOf decode
+unfolding be items all rowsFine fieldStatus headStatus rowOf rowStatus rowsStatus trialStatus trialOf endStatus tailStatus inputStatus caseOf decode
 decodings = refl

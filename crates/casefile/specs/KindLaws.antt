@@ -5,7 +5,7 @@ use lib.Dec.{lit<}
 use mir.Syntax.{w16, w32}
 use Rattle.figures.specs.Figures.{i16, u16, i32, u32, upTo, within}
 use Rattle.figures.specs.FigureLaws.{Lawful, unsigned-lawful, signed-lawful}
-use Rattle.casefile.specs.Case.{coefficientLimit, toleranceLimit, rightSideLimit, rightToleranceLimit, trialLimit}
+use Rattle.limits.specs.Limits.{coefficientLimit, toleranceLimit, rightSideLimit, rightToleranceLimit, trialLimit}
 use Rattle.casefile.specs.Layout.{trialKind}
 
 pub coefficient-lawful : Lawful i16 (within coefficientLimit)

@@ -1,13 +1,12 @@
 -- The bytes of a case: document 01, "Layout of case and record".
-use Prim.Native.Nat.{ℕ, zero, suc, _+_, _*_, _≤_}
+use Prim.Native.Nat.{ℕ, _+_, _*_}
 use mathlib.Core.List.{List, [], _∷_, _++_, map}
-use mathlib.Core.Path.{_≡_}
-use lib.ListN.{length, take, drop}
 use lib.IntN.{ℤ}
 use Rattle.buffer.specs.Buffer.{joined}
 use Rattle.figures.specs.Figures.{Kind, i16, u16, i32, u32, spread}
 use Rattle.fields.specs.Field.{headerSize, field, endField}
-use Rattle.casefile.specs.Case.{Case, mostTanks, whereBrought}
+use Rattle.casefile.specs.Block.{Block, split}
+use Rattle.casefile.specs.Case.{Case, whereBrought}
 
 -- ---- fields and their lengths
 
@@ -77,49 +76,18 @@ longestCase = 388
 
 -- ---- rows
 
--- a row's figures: n, n, one and one
-pub record Row : Type 0 where
-  pub coefficients : List ℤ
-  pub tolerances : List ℕ
-  pub right-side : List ℤ
-  pub right-tolerance : List ℕ
-
-abbrev pub rowMade : List ℤ → List ℕ → List ℤ → List ℕ → Row
-rowMade a t b f = record { coefficients = a; tolerances = t; right-side = b; right-tolerance = f }
-
--- lists of one row's figures
-pub record RowLists (n : ℕ) (a : List ℤ) (t : List ℕ) (b : List ℤ) (f : List ℕ) : Type 0 where
-  pub small : n ≤ mostTanks
-  pub la : length a ≡ n
-  pub lt : length t ≡ n
-  pub lb : length b ≡ 1
-  pub lf : length f ≡ 1
-
--- lists that hold the figures of n rows
-pub record RowsRoom (n : ℕ) (a : List ℤ) (t : List ℕ) (b : List ℤ) (f : List ℕ) : Type 0 where
-  pub small : n ≤ mostTanks
-  pub la : n * n ≤ length a
-  pub lt : n * n ≤ length t
-  pub lb : n ≤ length b
-  pub lf : n ≤ length f
-
 -- "n coefficients of 2 bytes, n tolerances of 2 bytes (unsigned), b (4 bytes), f (4 bytes, unsigned)"
-unfoldable pub rowBytes : Row → List ℕ
+unfoldable pub rowBytes : Block → List ℕ
 rowBytes r =
     spread i16 (r .coefficients)
-    ++ (spread u16 (r .tolerances) ++ (spread i32 (r .right-side) ++ spread u32 (r .right-tolerance)))
+    ++ (spread u16 (r .tolerances) ++ (spread i32 (r .right-sides) ++ spread u32 (r .right-tolerances)))
 
-abbrev pub rowField : Row → List ℕ
+abbrev pub rowField : Block → List ℕ
 rowField r = field rowTag (rowBytes r)
 
--- the first m rows of figures that stand row after row
-unfoldable pub split : ℕ → ℕ → List ℤ → List ℕ → List ℤ → List ℕ → List Row
-split n zero a t b f = []
-split n (suc m) a t b f =
-    rowMade (take n a) (take n t) (take 1 b) (take 1 f) ∷ split n m (drop n a) (drop n t) (drop 1 b) (drop 1 f)
-
-abbrev pub rowsIn : Case → List Row
-rowsIn c = split (c .n) (c .n) (c .coefficients) (c .tolerances) (c .right-sides) (c .right-tolerances)
+-- the rows of a case
+abbrev pub rowsIn : Case → List Block
+rowsIn c = split (c .n) (c .n) (c .rows)
 
 -- ---- the whole
 

@@ -1,8 +1,11 @@
+pub mod Block
 pub mod Case
 pub mod Layout
 pub mod Decode
 pub mod Write
 pub mod KindLaws
+pub mod AnswerLaws
+pub mod BlockLaws
 pub mod RowLaws
 pub mod RowsLaws
 pub mod TailLaws

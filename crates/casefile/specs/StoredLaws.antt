@@ -5,14 +5,18 @@ use mathlib.Core.List.{List, [], _∷_, _++_}
 use Prim.Native.Nat.{ℕ, zero, suc, _+_, _≤_}
 use lib.ListN.{length, getD, take, drop, replicate}
 use lib.Seq.{take-at, getD-drop}
+use lib.IntN.{ℤ, pos, natAbs}
 use Rattle.integers.specs.Tables.{same-at}
 use Rattle.buffer.specs.Laws.{holds}
+use Rattle.figures.specs.Figures.{upTo, within}
+use Rattle.figures.specs.FigureLaws.{within-at, upTo-at}
 use Rattle.outcome.specs.declared.Refusal.{Refusal}
 use Rattle.outcome.specs.declared.Status.the-variants.{Accepted, Refused}
 use Rattle.outcome.specs.Laws.{not-both}
 use Rattle.casefile.specs.declared.Case.{Case as Stored}
 use Rattle.casefile.specs.declared.Reading.{Reading}
 use Rattle.casefile.specs.Case.{Case}
+use Rattle.casefile.specs.BlockLaws.{Sound}
 use Rattle.casefile.specs.Decode.{Decoded, accepted, refused, padded, stored, reading}
 
 module _ {X : Type 0} (z : X) where
@@ -32,6 +36,13 @@ module _ {X : Type 0} (z : X) where
 
     pub take-padded : take m (padded k z l) ≡ l
     take-padded = take-at l (drop (length l) (replicate k z)) m e
+
+-- each figure of a padded list is within the limit that the list's are
+pub padded-within : (k limit : ℕ) {m : ℕ} {l : List ℤ} → Sound (within limit) m l → (i : ℕ) → natAbs (getD (padded k (pos 0) l) i (pos 0)) ≤ limit
+padded-within k limit {l = l} s i = rw (getD-padded (pos 0) k l i) (within-at limit l (s .fine) i)
+
+pub padded-up-to : (k limit : ℕ) {m : ℕ} {l : List ℕ} → Sound (upTo limit) m l → (i : ℕ) → getD (padded k 0 l) i 0 ≤ limit
+padded-up-to k limit {l = l} s i = rw (getD-padded 0 k l i) (upTo-at limit l (s .fine) i)
 
 -- ---- what a reading tells
 

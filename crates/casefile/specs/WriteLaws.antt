@@ -12,8 +12,8 @@ use Rattle.outcome.specs.declared.Refusal.the-variants.{BufferTooShort}
 use Rattle.outcome.specs.declared.Outcome.the-variants.{Count, Refused as RefusedBy}
 use Rattle.outcome.specs.declared.Status.{Status}
 use Rattle.outcome.specs.declared.Status.the-variants.{Accepted, Refused}
-use Rattle.outcome.specs.Outcome.{said, check}
-use Rattle.outcome.specs.Laws.{no-count, same-refusal, check-accepted, first-accepted}
+use Rattle.outcome.specs.Outcome.{said}
+use Rattle.outcome.specs.Laws.{no-count, same-refusal, check-then}
 use Rattle.buffer.specs.Buffer.{onto}
 use Rattle.bigendian.specs.NumberLaws.{Bytes}
 use Rattle.buffer.specs.Laws.{length-onto, take-onto}
@@ -46,8 +46,8 @@ filed-refusal (Refused q) bytes out r e = ap Refused (same-refusal q r e)
 module _ (asked : ℕ) (next : Status) where
   pub in-room : (room : ℕ) → inRoom asked room next ≡ Accepted → (asked ≤ room) × (next ≡ Accepted)
   in-room room e =
-      let w = first-accepted (check (leb asked room) BufferTooShort) next e in
-      (leb-true asked room (check-accepted _ BufferTooShort (w .0)), w .1)
+      let w = check-then (leb asked room) BufferTooShort next e in
+      (leb-true asked room (w .0), w .1)
 
   -- the three ways through a call that tests the room and then a status
   module _ (bytes out : List ℕ) where

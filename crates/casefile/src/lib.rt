@@ -1,26 +1,14 @@
-// A case as the program holds it, the limits of its figures, and the tags, lengths and places of its fields in bytes.
+// A case as the program holds it, whether n, e and K are within their limits, and the tags, lengths and places of its fields in bytes.
 ghost use mathlib.Core.Path.{_≡_};
 ghost use Prim.Native.Nat.{_≤_};
-ghost use Rattle.casefile.specs.Case.{mostTanks, headFine, trialCount};
+ghost use Rattle.limits.specs.Limits.{mostTanks};
+ghost use Rattle.casefile.specs.Case.{headFine, trialCount};
 ghost use Rattle.casefile.specs.Layout.{rowLength, rowSize, tolerancesAt, rightSideAt, rightToleranceAt, rowsEnd, trialLength, trialSize};
+use bigendian::SIZE_16;
+use bigendian::SIZE_32;
+use limits::MOST_COEFFICIENTS;
+use limits::MOST_TANKS;
 use outcome::Status;
-
-// Document 01, "Figures".
-pub const MOST_TANKS: usize = 8;
-
-pub const MOST_EXPONENT: usize = 3;
-
-pub const MOST_ROUNDS: usize = 8;
-
-pub const COEFFICIENT_LIMIT: u64 = 32767;
-
-pub const TOLERANCE_LIMIT: u64 = 32767;
-
-pub const RIGHT_SIDE_LIMIT: u64 = 1000000000;
-
-pub const RIGHT_TOLERANCE_LIMIT: u64 = 1000000000;
-
-pub const TRIAL_LIMIT: u64 = 10000000;
 
 // Document 01, "Layout of case and record".
 pub const HEAD_TAG: u8 = 1;
@@ -48,11 +36,11 @@ pub struct Case {
     pub n: usize,
     pub exponent: usize,
     pub rounds: usize,
-    pub coefficients: [i16; 64],
-    pub tolerances: [u16; 64],
-    pub right_sides: [i32; 8],
-    pub right_tolerances: [u32; 8],
-    pub trial: [i32; 8],
+    pub coefficients: [i16; MOST_COEFFICIENTS],
+    pub tolerances: [u16; MOST_COEFFICIENTS],
+    pub right_sides: [i32; MOST_TANKS],
+    pub right_tolerances: [u32; MOST_TANKS],
+    pub trial: [i32; MOST_TANKS],
 }
 
 // What reading a file gives: the case, or the first refusal beside a case of zeros.
@@ -71,10 +59,10 @@ pub fn head_fine(n: usize, exponent: usize, rounds: usize) -> bool
     if MOST_TANKS < n {
         return false;
     }
-    if MOST_EXPONENT < exponent {
+    if limits::MOST_EXPONENT < exponent {
         return false;
     }
-    rounds <= MOST_ROUNDS
+    rounds <= limits::MOST_ROUNDS
 }
 
 // How many figures the trial has: none where K is above 0.
@@ -105,7 +93,7 @@ pub fn tolerances_at(n: usize) -> usize
     requires { ⌜ n ≤ mostTanks ⌝ }
     ensures { λ r. ⌜ r ≡ tolerancesAt n ⌝ }
 {
-    2 * n
+    SIZE_16 * n
 }
 
 // Where the right side stands: behind n tolerances of two bytes.
@@ -113,7 +101,7 @@ pub fn right_side_at(n: usize) -> usize
     requires { ⌜ n ≤ mostTanks ⌝ }
     ensures { λ r. ⌜ r ≡ rightSideAt n ⌝ }
 {
-    tolerances_at(n) + n * 2
+    tolerances_at(n) + n * SIZE_16
 }
 
 // Where the right side's tolerance stands: behind its four bytes.
@@ -121,7 +109,7 @@ pub fn right_tolerance_at(n: usize) -> usize
     requires { ⌜ n ≤ mostTanks ⌝ }
     ensures { λ r. ⌜ r ≡ rightToleranceAt n ⌝ }
 {
-    right_side_at(n) + 4
+    right_side_at(n) + SIZE_32
 }
 
 // Where the rows end, and what follows them begins.
@@ -137,7 +125,7 @@ pub fn trial_length(n: usize) -> usize
     requires { ⌜ n ≤ mostTanks ⌝ }
     ensures { λ r. ⌜ r ≡ trialLength n ⌝ }
 {
-    n * 4
+    n * SIZE_32
 }
 
 // The bytes of the trial's field, header and value: none where K is above 0.

@@ -3,8 +3,9 @@
 use integers::magnitude;
 use integers::power_of_ten;
 ghost use mathlib.Core.Path.{_≡_};
-ghost use Prim.Native.Nat.{_<_};
+ghost use Prim.Native.Nat.{_≤_};
 ghost use lib.ListN.{length};
+ghost use Rattle.limits.specs.Limits.{mostExponent};
 ghost use Rattle.decimal.specs.Buffer.{Room, Wrote};
 ghost use Rattle.decimal.specs.Decimal.{digits, «last-digits», minus, signed, fraction, «fixed-point»};
 
@@ -94,7 +95,7 @@ fn write_fraction(x: u64, e: usize, at: usize, out: &mut [u8]) -> usize
 
 // x / 10^e: its sign, the whole part, and for e above 0 a point and e digits.
 pub fn write_fixed_point(x: i64, e: usize, at: usize, out: &mut [u8]) -> usize
-    requires { ⌜ (e < 4) × Room (fixed-point e x) at (now out) ⌝ }
+    requires { ⌜ (e ≤ mostExponent) × Room (fixed-point e x) at (now out) ⌝ }
     ensures { λ r. ⌜ Wrote (fixed-point e x) at (now (out .entry)) r (now (out .exit)) ⌝ }
 {
     let size = magnitude(x);

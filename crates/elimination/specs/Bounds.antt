@@ -7,6 +7,7 @@ use native.Mathlib.Omega.{arith}
 use lib.ListN.{getD, length}
 use lib.IntN.{ℤ, pos, natAbs, _*ℤ_}
 use lib.Pow.{pow-mono, pow-add, pow-pos}
+use Rattle.limits.specs.Limits.{mostTanks}
 use Rattle.integers.specs.Size.{natAbs-subℤ, product-ok}
 use Rattle.integers.specs.Tables.{fill, all-fill, fill-none, Within, AllWithin, within-set}
 use Rattle.rounding.specs.Round.{rnd}
@@ -17,7 +18,7 @@ use Rattle.elimination.specs.Conditions.{bound, Dividing, Ready, Pivoted
 use Rattle.elimination.specs.Laws.{transposed, transposed-cases, transposed-first, exchange-at}
 use Rattle.elimination.specs.Pivot.{Best, pivot-best, nonzero-in}
 
-pub bound-le : (k : ℕ) → k < 8 → bound k ≤ 2 ^ 30
+pub bound-le : (k : ℕ) → k < mostTanks → bound k ≤ 2 ^ 30
 bound-le k h = omega (arith, pow-mono {i = k} {j = 7} (omega arith))
 
 pub bound-suc : (k : ℕ) → bound (k + 1) ≡ bound k + bound k
@@ -118,7 +119,7 @@ module _ (w : List (List ℤ)) (k n : ℕ) (h : k < n) (hp : 0 < natAbs (at w (p
   pub exchanged-row : (i : ℕ) → getD (exchange [] w k (pivot-row w k n)) i [] ≡ getD w (transposed k (pivot-row w k n) i) []
   exchanged-row i = exchange-at [] w k p′ i in-k in-p
 
-  pub pivoted : n ≤ 8 → AllWithin (bound k) w → Pivoted (exchange [] w k (pivot-row w k n)) k n
+  pub pivoted : n ≤ mostTanks → AllWithin (bound k) w → Pivoted (exchange [] w k (pivot-row w k n)) k n
   pivoted h8 hw =
       record {
         below = h;

@@ -4,6 +4,7 @@ use mathlib.Core.List.{List}
 use Prim.Native.Nat.{ℕ, _^_, _<_, _≤_}
 use lib.ListN.{getD, length}
 use lib.IntN.{ℤ, pos, natAbs}
+use Rattle.limits.specs.Limits.{mostTanks}
 use Rattle.integers.specs.Tables.{AllWithin}
 use Rattle.elimination.specs.Matrix.{at}
 use Rattle.elimination.specs.Steps.{after-steps}
@@ -23,7 +24,7 @@ pub record Place (n : ℕ) (o : List ℕ) (r : ℕ) : Type 0 where
 
 -- the order is a permutation of n rows: each stands at some place below n, and at one only
 pub record Permutation (n : ℕ) (o : List ℕ) : Type 0 where
-  pub eight : length o ≡ 8
+  pub eight : length o ≡ mostTanks
   pub below : (i : ℕ) → i < n → getD o i 0 < n
   pub some : (r : ℕ) → r < n → Place n o r
   pub one : (i j : ℕ) → i < n → j < n → getD o i 0 ≡ getD o j 0 → i ≡ j

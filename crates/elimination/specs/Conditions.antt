@@ -4,6 +4,7 @@ use mathlib.Core.List.{List}
 use Prim.Native.Nat.{ℕ, _*_, _^_, _<_, _≤_}
 use lib.ListN.{getD}
 use lib.IntN.{ℤ, pos, natAbs}
+use Rattle.limits.specs.Limits.{mostTanks}
 use Rattle.integers.specs.Tables.{Within, AllWithin}
 use Rattle.elimination.specs.Matrix.{at}
 
@@ -29,7 +30,7 @@ pub record Dividing (entry pivot : ℤ) : Type 0 where
 -- what the elimination of one row asks
 pub record Ready (top row : List ℤ) (k n : ℕ) : Type 0 where
   pub below : k < n
-  pub few : n ≤ 8
+  pub few : n ≤ mostTanks
   pub top-in : Within (bound k) top
   pub row-in : Within (bound k) row
   pub pivot : 0 < natAbs (getD top k (pos 0))
@@ -38,7 +39,7 @@ pub record Ready (top row : List ℤ) (k n : ℕ) : Type 0 where
 -- what the elimination below row k asks: no entry of column k below row k is larger than row k's, which is not 0
 pub record Pivoted (w : List (List ℤ)) (k n : ℕ) : Type 0 where
   pub below : k < n
-  pub few : n ≤ 8
+  pub few : n ≤ mostTanks
   pub all-in : AllWithin (bound k) w
   pub pivot : 0 < natAbs (at w k k)
   pub largest : (i : ℕ) → k < i → i < n → natAbs (at w i k) ≤ natAbs (at w k k)

@@ -9,6 +9,7 @@ use lib.ListN.{getD, set}
 use lib.Seq.{getD-set-other}
 use lib.IntN.{ℤ, pos, natAbs}
 use lib.Pow.{pow-mono}
+use Rattle.limits.specs.Limits.{mostTanks}
 use Rattle.integers.specs.Tables.{fill, set-here, fill-at, Within, AllWithin}
 use Rattle.elimination.specs.Matrix.{at}
 use Rattle.elimination.specs.Steps.{working, pivot-row, exchange, multiplier, reduced, eliminated-row, row-below, eliminated-below}
@@ -95,13 +96,13 @@ pub record Kept (n : ℕ) (r : Run) : Type 0 where
   pub done : (i : ℕ) → Done (r .steps) n i (getD (r .rows) i [])
 
 -- the next step has its pivot
-pub kept-pivoted : (n : ℕ) (r : Run) → n ≤ 8 → r .steps < n → Kept n r → 0 < largest n r
+pub kept-pivoted : (n : ℕ) (r : Run) → n ≤ mostTanks → r .steps < n → Kept n r → 0 < largest n r
     → Pivoted (exchange [] (r .rows) (r .steps) (next-pivot n r)) (r .steps) n
 kept-pivoted n r h8 h s p =
     let e : min (r .steps) (n - 1) ≡ r .steps = omega arith in
     pivoted (r .rows) (r .steps) n h p h8 (rw e at (s .all-in))
 
-kept-more : (n : ℕ) (r : Run) → n ≤ 8 → r .steps < n → Kept n r → 0 < largest n r → Kept n (stepped n r)
+kept-more : (n : ℕ) (r : Run) → n ≤ mostTanks → r .steps < n → Kept n r → 0 < largest n r → Kept n (stepped n r)
 kept-more n r h8 h s p =
     record {
       all-in = within (decLt (r .steps + 1) n);
@@ -120,7 +121,7 @@ kept-more n r h8 h s p =
         let e : min (r .steps + 1) (n - 1) ≡ r .steps = omega arith in
         rw (e, last-step w (r .steps) n (omega arith)) (q .all-in)
 
-pub kept : (n : ℕ) (a : List ℤ) → n ≤ 8 → AllWithin (bound 0) (working n a) → (k : ℕ) → k ≤ n → Kept n (after-steps n a k)
+pub kept : (n : ℕ) (a : List ℤ) → n ≤ mostTanks → AllWithin (bound 0) (working n a) → (k : ℕ) → k ≤ n → Kept n (after-steps n a k)
 unfolding after-steps
 kept n a h8 h zero l =
     let e : min 0 (n - 1) ≡ 0 = omega arith in
@@ -133,7 +134,7 @@ kept n a h8 h (suc k) l =
     advanced-cases n (after-steps n a k) (Kept n) (λ e. s) (λ p. kept-more n (after-steps n a k) h8 (omega (arith, steps-few n a k)) s p)
 
 -- "At step k": no working number is above 2^k × 2^23 after k steps, or after those that were made
-pub grown : (n : ℕ) (a : List ℤ) → n ≤ 8 → Within (2 ^ 15) a → (k : ℕ) → k ≤ n → AllWithin (bound k) (after-steps n a k .rows)
+pub grown : (n : ℕ) (a : List ℤ) → n ≤ mostTanks → Within (2 ^ 15) a → (k : ℕ) → k ≤ n → AllWithin (bound k) (after-steps n a k .rows)
 grown n a h8 h k l i j =
     omega (
       arith,
@@ -143,7 +144,7 @@ grown n a h8 h k l i j =
 
 -- ---- after all steps
 
-module _ (n : ℕ) (a : List ℤ) (h8 : n ≤ 8) (h : Within (2 ^ 15) a) where
+module _ (n : ℕ) (a : List ℤ) (h8 : n ≤ mostTanks) (h : Within (2 ^ 15) a) where
   last : Kept n (after-steps n a n)
   last = kept n a h8 (working-in n a h) n (omega arith)
 

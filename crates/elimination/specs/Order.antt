@@ -5,6 +5,7 @@ use Prim.Native.Nat.{ℕ, zero, suc, _<_, _≤_}
 use native.Mathlib.Omega.{arith}
 use lib.ListN.{getD, length-set}
 use lib.IntN.{ℤ}
+use Rattle.limits.specs.Limits.{mostTanks}
 use Rattle.integers.specs.Tables.{getD-table}
 use Rattle.elimination.specs.Steps.{exchange, start-order, next-pivot, after-steps, eliminated}
 use Rattle.elimination.specs.Claims.{Place, Permutation}
@@ -13,7 +14,7 @@ use Rattle.elimination.specs.Pivot.{pivot-best}
 use Rattle.elimination.specs.Runs.{advanced-cases, steps-few}
 
 -- at the start place i holds row i
-start : (n : ℕ) → n ≤ 8 → Permutation n start-order
+start : (n : ℕ) → n ≤ mostTanks → Permutation n start-order
 start n h =
     record {
       eight = refl;
@@ -23,10 +24,10 @@ start n h =
     }
   where
     own : (i : ℕ) → i < n → getD start-order i 0 ≡ i
-    own i l = getD-table 8 (λ m. m) i 0 (omega arith)
+    own i l = getD-table mostTanks (λ m. m) i 0 (omega arith)
 
 -- an exchange of two places below n
-exchanged : (n : ℕ) (o : List ℕ) (k p : ℕ) → n ≤ 8 → k < n → p < n → Permutation n o → Permutation n (exchange 0 o k p)
+exchanged : (n : ℕ) (o : List ℕ) (k p : ℕ) → n ≤ mostTanks → k < n → p < n → Permutation n o → Permutation n (exchange 0 o k p)
 exchanged n o k p h8 hk hp s =
     record {
       eight = simp length-set (s .eight);
@@ -52,7 +53,7 @@ exchanged n o k p h8 hk hp s =
           holds = read (transposed k p (t .place)) ∙ rw (transposed-twice k p (t .place)) (t .holds);
         }
 
-after : (n : ℕ) (a : List ℤ) → n ≤ 8 → (k : ℕ) → k ≤ n → Permutation n (after-steps n a k .order)
+after : (n : ℕ) (a : List ℤ) → n ≤ mostTanks → (k : ℕ) → k ≤ n → Permutation n (after-steps n a k .order)
 unfolding after-steps
 after n a h8 zero l = start n h8
 after n a h8 (suc k) l =
@@ -64,6 +65,6 @@ after n a h8 (suc k) l =
     (λ p. exchanged n (r .order) (r .steps) (next-pivot n r) h8 h (pivot-best (r .rows) (r .steps) n h .high) s)
 
 -- also where the elimination ends before its last step
-pub permutation : (n : ℕ) (a : List ℤ) → n ≤ 8 → Permutation n (eliminated n a .order)
+pub permutation : (n : ℕ) (a : List ℤ) → n ≤ mostTanks → Permutation n (eliminated n a .order)
 unfolding eliminated
 permutation n a h8 = after n a h8 n (omega arith)

@@ -6,6 +6,7 @@ use Prim.Native.Nat.{ℕ, zero, suc, _+_, _*_, _-_}
 use lib.Dec.{ltb, eqb}
 use lib.ListN.{getD, set, replicate}
 use lib.IntN.{ℤ, pos, natAbs, _-ℤ_, _*ℤ_}
+use Rattle.limits.specs.Limits.{mostTanks}
 use Rattle.integers.specs.Tables.{table, fill}
 use Rattle.rounding.specs.Round.{rnd}
 use Rattle.elimination.specs.Matrix.{at}
@@ -18,14 +19,14 @@ abbrev pub scaled : ℕ → List ℤ → ℕ → ℕ → ℤ
 scaled n a i j = pos 256 *ℤ getD a (i * n + j) (pos 0)
 
 unfoldable pub working-row : ℕ → List ℤ → ℕ → List ℤ
-working-row n a i = fill (scaled n a i) 0 n (replicate 8 (pos 0))
+working-row n a i = fill (scaled n a i) 0 n (replicate mostTanks (pos 0))
 
 unfoldable pub working : ℕ → List ℤ → List (List ℤ)
-working n a = fill (working-row n a) 0 n (replicate 8 (replicate 8 (pos 0)))
+working n a = fill (working-row n a) 0 n (replicate mostTanks (replicate mostTanks (pos 0)))
 
 -- the order at the start: place i holds row i
 abbrev pub start-order : List ℕ
-start-order = table 8 (λ i. i)
+start-order = table mostTanks (λ i. i)
 
 -- ---- a step
 

@@ -1,11 +1,14 @@
 // Elimination with row exchanges on working numbers.
 use integers::magnitude;
+use limits::MOST_COEFFICIENTS;
+use limits::MOST_TANKS;
 use rounding::rounded_by_scale;
 use rounding::rounded_quotient;
 ghost use mathlib.Core.Path.{_≡_};
 ghost use mathlib.Core.List.{[]};
 ghost use Prim.Native.Nat.{_<_, _≤_};
 ghost use lib.IntN.{pos, _*ℤ_};
+ghost use Rattle.limits.specs.Limits.{mostTanks};
 ghost use Rattle.rounding.specs.Round.{rnd};
 ghost use Rattle.elimination.specs.Steps.{working-row, working, exchange, eliminated-row, eliminated-below};
 ghost use Rattle.elimination.specs.Conditions.{StartRow, StartRows, Dividing, Ready, Pivoted};
@@ -13,8 +16,13 @@ ghost use Rattle.elimination.specs.Start.{zero-row, zero-rows};
 ghost use Rattle.elimination.specs.Outcome.{Eliminates};
 
 // Row i of the working numbers at the start, over a row of zeros.
-fn fill_row(n: usize, coefficients: &[i16; 64], i: usize, row: &mut [i64; 8])
-    requires { ⌜ (n ≤ 8) × (i < n) × (now row ≡ zero-row) ⌝ }
+fn fill_row(
+    n: usize,
+    coefficients: &[i16; MOST_COEFFICIENTS],
+    i: usize,
+    row: &mut [i64; MOST_TANKS],
+)
+    requires { ⌜ (n ≤ mostTanks) × (i < n) × (now row ≡ zero-row) ⌝ }
     ensures { λ _. ⌜ StartRow (now (row .exit)) (working-row n (now (coefficients .entry)) i) ⌝ }
 {
     let mut j: usize = 0;
@@ -25,8 +33,12 @@ fn fill_row(n: usize, coefficients: &[i16; 64], i: usize, row: &mut [i64; 8])
 }
 
 // The working numbers at the start, over rows of zeros.
-fn fill_rows(n: usize, coefficients: &[i16; 64], w: &mut [[i64; 8]; 8])
-    requires { ⌜ (n ≤ 8) × (now w ≡ zero-rows) ⌝ }
+fn fill_rows(
+    n: usize,
+    coefficients: &[i16; MOST_COEFFICIENTS],
+    w: &mut [[i64; MOST_TANKS]; MOST_TANKS],
+)
+    requires { ⌜ (n ≤ mostTanks) × (now w ≡ zero-rows) ⌝ }
     ensures { λ _. ⌜ StartRows (now (w .exit)) (working n (now (coefficients .entry))) ⌝ }
 {
     let mut i: usize = 0;
@@ -37,8 +49,8 @@ fn fill_rows(n: usize, coefficients: &[i16; 64], w: &mut [[i64; 8]; 8])
 }
 
 // Rows i and j exchanged, with the multipliers that stand in them.
-fn exchange_rows(w: &mut [[i64; 8]; 8], i: usize, j: usize)
-    requires { ⌜ (i < 8) × (j < 8) ⌝ }
+fn exchange_rows(w: &mut [[i64; MOST_TANKS]; MOST_TANKS], i: usize, j: usize)
+    requires { ⌜ (i < mostTanks) × (j < mostTanks) ⌝ }
     ensures { λ _. ⌜ now (w .exit) ≡ exchange [] (now (w .entry)) i j ⌝ }
 {
     let a = w[i];
@@ -48,8 +60,8 @@ fn exchange_rows(w: &mut [[i64; 8]; 8], i: usize, j: usize)
 }
 
 // Places i and j of the order exchanged.
-fn exchange_places(order: &mut [usize; 8], i: usize, j: usize)
-    requires { ⌜ (i < 8) × (j < 8) ⌝ }
+fn exchange_places(order: &mut [usize; MOST_TANKS], i: usize, j: usize)
+    requires { ⌜ (i < mostTanks) × (j < mostTanks) ⌝ }
     ensures { λ _. ⌜ now (order .exit) ≡ exchange 0 (now (order .entry)) i j ⌝ }
 {
     let a = order[i];
@@ -67,7 +79,7 @@ fn multiplier_of(entry: i64, pivot: i64) -> i64
 }
 
 // Column k eliminated in a row below the pivot's row `top`; the row's multiplier is kept there.
-fn eliminate_row(top: &[i64; 8], row: &mut [i64; 8], k: usize, n: usize)
+fn eliminate_row(top: &[i64; MOST_TANKS], row: &mut [i64; MOST_TANKS], k: usize, n: usize)
     requires { ⌜ Ready (now top) (now row) k n ⌝ }
     ensures { λ _. ⌜ now (row .exit) ≡ eliminated-row (now (top .entry)) (now (row .entry)) k n ⌝ }
 {
@@ -81,8 +93,13 @@ fn eliminate_row(top: &[i64; 8], row: &mut [i64; 8], k: usize, n: usize)
 }
 
 // Step k: rows k and `pivot` exchanged, and column k eliminated in every row below row k.
-fn step(mut w: [[i64; 8]; 8], k: usize, pivot: usize, n: usize) -> [[i64; 8]; 8]
-    requires { ⌜ (pivot < 8) × Pivoted (exchange [] w k pivot) k n ⌝ }
+fn step(
+    mut w: [[i64; MOST_TANKS]; MOST_TANKS],
+    k: usize,
+    pivot: usize,
+    n: usize,
+) -> [[i64; MOST_TANKS]; MOST_TANKS]
+    requires { ⌜ (pivot < mostTanks) × Pivoted (exchange [] w k pivot) k n ⌝ }
     ensures { λ r. ⌜ r ≡ eliminated-below (exchange [] w k pivot) k n ⌝ }
 {
     exchange_rows(&mut w, k, pivot);
@@ -106,14 +123,14 @@ pub enum Elimination {
 // stands at each place. Both are written whole, whatever they held, after an early end too. Asks that there are at most 8 rows.
 pub fn eliminate(
     n: usize,
-    coefficients: &[i16; 64],
-    rows: &mut [[i64; 8]; 8],
-    order: &mut [usize; 8],
+    coefficients: &[i16; MOST_COEFFICIENTS],
+    rows: &mut [[i64; MOST_TANKS]; MOST_TANKS],
+    order: &mut [usize; MOST_TANKS],
 ) -> Elimination
-    requires { ⌜ n ≤ 8 ⌝ }
+    requires { ⌜ n ≤ mostTanks ⌝ }
     ensures { λ r. ⌜ Eliminates n (now (coefficients .entry)) r (now (rows .exit)) (now (order .exit)) ⌝ }
 {
-    *rows = [[0i64; 8]; 8];
+    *rows = [[0i64; MOST_TANKS]; MOST_TANKS];
     fill_rows(n, coefficients, rows);
     *order = [0, 1, 2, 3, 4, 5, 6, 7];
     let mut k: usize = 0;

@@ -9,11 +9,14 @@ use Rattle.outcome.specs.Outcome.{check, first}
 use Rattle.bigendian.specs.Number.{be, bytes}
 
 -- document 01: "one byte tag, two bytes length, then the value"
+abbrev pub lengthSize : ℕ
+lengthSize = 2
+
 abbrev pub header : ℕ → ℕ → List ℕ
-header tag len = tag ∷ bytes 2 len
+header tag len = tag ∷ bytes lengthSize len
 
 abbrev pub headerSize : ℕ
-headerSize = 3
+headerSize = 1 + lengthSize
 
 unfoldable pub field : ℕ → List ℕ → List ℕ
 field tag value = header tag (length value) ++ value
@@ -31,7 +34,13 @@ endSize = headerSize + endLength
 abbrev pub endField : List ℕ
 endField = field endTag []
 
--- the value of the field at the front of s, with what follows it; and what follows a value of a stated length
+-- of the field at the front of s: the tag, the length, the value with what follows it, and what follows a value of a stated length
+abbrev pub tagOf : List ℕ → ℕ
+tagOf s = getD s 0 0
+
+abbrev pub lengthOf : List ℕ → ℕ
+lengthOf s = be (take lengthSize (drop 1 s))
+
 abbrev pub valueOf : List ℕ → List ℕ
 valueOf s = drop headerSize s
 
@@ -43,6 +52,6 @@ afterField len s = drop (headerSize + len) s
 unfoldable pub fieldStatus : ℕ → ℕ → List ℕ → Status
 fieldStatus tag len s =
     first (check (leb headerSize (length s)) FieldMissing)
-    (first (check (eqb (getD s 0 0) tag) WrongTag)
-    (first (check (eqb (be (take 2 (drop 1 s))) len) WrongLength)
+    (first (check (eqb (tagOf s) tag) WrongTag)
+    (first (check (eqb (lengthOf s) len) WrongLength)
     (check (leb len (length s - headerSize)) ValueCutShort)))

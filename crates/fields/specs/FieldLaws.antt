@@ -2,25 +2,24 @@
 -- Assumes nothing.
 use mathlib.Core.Path.{_≡_, refl, sym, ap, _∙_}
 use mathlib.Core.List.{List, [], _∷_, _++_, append-assoc}
-use Prim.Native.Nat.{ℕ, suc, _+_, _-_, _≤_, _<_}
+use Prim.Native.Nat.{ℕ, suc, _+_, _-_, _^_, _≤_, _<_}
 use native.Mathlib.Omega.{arith}
-use lib.ListN.{length, getD, take, drop, length-append, length-take, length-drop, take-append-drop}
-use lib.Seq.{drop-drop, drop-at, drop-cons, sets, sets-eq}
+use lib.ListN.{length, take, drop, length-append, length-drop, take-append-drop}
+use lib.Seq.{length-take-le, drop-drop, take-at, drop-at, drop-cons, sets, sets-eq}
 use lib.Dec.{leb, eqb}
 use borrow.Author.Tests.{le-leb, leb-true, eq-eqb, eqb-true}
 use Rattle.outcome.specs.declared.Refusal.the-variants.{FieldMissing, WrongTag, WrongLength}
 use Rattle.outcome.specs.declared.Status.{Status}
 use Rattle.outcome.specs.declared.Status.the-variants.{Accepted}
-use Rattle.outcome.specs.Outcome.{check}
-use Rattle.outcome.specs.Laws.{check-accepted, first-accepted}
+use Rattle.outcome.specs.Laws.{check-accepted, check-then}
 use Rattle.buffer.specs.Buffer.{onto}
 use Rattle.buffer.specs.Laws.{part, put, then}
 use Rattle.bigendian.specs.Number.{be, bytes}
 use Rattle.bigendian.specs.NumberLaws.{Bytes, be-bytes, length-bytes, bytes-of, bytes-drop}
-use Rattle.fields.specs.Field.{header, headerSize, field, valueOf, afterField, fieldStatus}
+use Rattle.fields.specs.Field.{lengthSize, header, headerSize, field, tagOf, lengthOf, valueOf, afterField, fieldStatus}
 
 pub length-header : (tag len : ℕ) → length (header tag len) ≡ headerSize
-length-header tag len = ap suc (length-bytes 2 len)
+length-header tag len = ap suc (length-bytes lengthSize len)
 
 pub length-field : (tag : ℕ) (v : List ℕ) → length (field tag v) ≡ headerSize + length v
 unfolding field
@@ -34,7 +33,7 @@ field-is-header tag v len e = rw e
 pub field-written : (tag len : ℕ) (v out x : List ℕ) {y : List ℕ} → length v ≡ len → x ≡ onto (header tag len) out → y ≡ onto v (part x headerSize)
     → put x headerSize y ≡ onto (field tag v) out
 field-written tag len v out x {y} l e f =
-    then out x (header tag len) v headerSize y e (length-header tag len) f ∙ ap (λ b. onto b out) (field-is-header tag v len l)
+    rw (← (field-is-header tag v len l)) (then out x (header tag len) v headerSize y e (length-header tag len) f)
 
 -- the value stored byte by byte behind the header
 pub field-stored : (tag : ℕ) (v out l : List ℕ) → headerSize + length v ≤ length l → l ≡ onto (header tag (length v)) out
@@ -57,9 +56,9 @@ module _ (tag : ℕ) (v r : List ℕ) where
   pub field-after : (len : ℕ) → length v ≡ len → afterField len (field tag v ++ r) ≡ r
   field-after len e = sym (drop-drop len headerSize (field tag v ++ r)) ∙ rw (field-value, drop-at v r len e)
 
-  pub field-accepted : (len : ℕ) → length v ≡ len → len < 65536 → fieldStatus tag len (field tag v ++ r) ≡ Accepted
+  pub field-accepted : (len : ℕ) → length v ≡ len → len < 256 ^ lengthSize → fieldStatus tag len (field tag v ++ r) ≡ Accepted
   unfolding field bytes fieldStatus
-  field-accepted len e h = whole _ _ (v ++ r) (be-bytes 2 (length v) (omega arith) ∙ e) (omega (arith, length-append v r))
+  field-accepted len e h = whole _ _ (v ++ r) (be-bytes lengthSize (length v) (omega arith) ∙ e) (omega (arith, length-append v r))
     where
       whole : (x y : ℕ) (q : List ℕ) → be (x ∷ y ∷ []) ≡ len → len ≤ length q → fieldStatus tag len (tag ∷ x ∷ y ∷ q) ≡ Accepted
       whole x y q b m =
@@ -74,22 +73,20 @@ module _ (tag : ℕ) (v r : List ℕ) where
 
 module _ (tag len : ℕ) (s : List ℕ) (accepted : fieldStatus tag len s ≡ Accepted) where
   record Whole : Type 0 where
-    tag-is : getD s 0 0 ≡ tag
-    length-is : be (take 2 (drop 1 s)) ≡ len
+    tag-is : tagOf s ≡ tag
+    length-is : lengthOf s ≡ len
     room : headerSize + len ≤ length s
 
   whole : Whole
   unfolding fieldStatus
   whole =
-      let w1 = first-accepted (check (leb headerSize (length s)) FieldMissing) _ accepted in
-      let w2 = first-accepted (check (eqb (getD s 0 0) tag) WrongTag) _ (w1 .1) in
-      let w3 = first-accepted (check (eqb (be (take 2 (drop 1 s))) len) WrongLength) _ (w2 .1) in
-      let a : headerSize ≤ length s = leb-true headerSize (length s) (check-accepted _ _ (w1 .0)) in
-      let b : len ≤ length s - headerSize = leb-true len (length s - headerSize) (check-accepted _ _ (w3 .1)) in
+      let w1 = check-then (leb headerSize (length s)) FieldMissing _ accepted in
+      let w2 = check-then (eqb (tagOf s) tag) WrongTag _ (w1 .1) in
+      let w3 = check-then (eqb (lengthOf s) len) WrongLength _ (w2 .1) in
       record {
-        tag-is = eqb-true _ _ (check-accepted _ _ (w2 .0));
-        length-is = eqb-true _ _ (check-accepted _ _ (w3 .0));
-        room = omega arith;
+        tag-is = eqb-true _ _ (w2 .0);
+        length-is = eqb-true _ _ (w3 .0);
+        room = omega (arith, leb-true headerSize (length s) (w1 .0), leb-true len (length s - headerSize) (check-accepted _ _ (w3 .1)));
       }
 
   pub field-room : headerSize + len ≤ length s
@@ -102,28 +99,29 @@ module _ (tag len : ℕ) (s : List ℕ) (accepted : fieldStatus tag len s ≡ Ac
   unfolding field
   field-is bs =
       let w = whole in
-      let a : headerSize + len ≤ length s = w .room in
-      let d : 2 ≤ length (drop 1 s) = simp length-drop (omega arith) in
-      let b : bytes 2 len ≡ take 2 (drop 1 s) = rw (← (w .length-is)) (bytes-of 2 (drop 1 s) (bytes-drop 1 bs) d) in
-      let l : length (take len (valueOf s)) ≡ len = simp (length-take, length-drop) (omega arith) in
-      let c : s ≡ getD s 0 0 ∷ drop 1 s = drop-cons s 0 0 (omega arith) in
+      let d : lengthSize ≤ length (drop 1 s) = simp length-drop (omega arith) in
+      let b : bytes lengthSize len ≡ take lengthSize (drop 1 s) = rw (← (w .length-is)) (bytes-of lengthSize (drop 1 s) (bytes-drop 1 bs) d) in
       rw (
-        l,
+        length-take-le len (valueOf s) value-room,
         b,
-        append-assoc (take 2 (drop 1 s)) (take len (valueOf s)) (afterField len s),
+        append-assoc (take lengthSize (drop 1 s)) (take len (valueOf s)) (afterField len s),
         ← (drop-drop len headerSize s),
         take-append-drop len (valueOf s),
-        ← (drop-drop 2 1 s),
-        take-append-drop 2 (drop 1 s),
+        ← (drop-drop lengthSize 1 s),
+        take-append-drop lengthSize (drop 1 s),
         ← (w .tag-is),
       )
-      (sym c)
+      (sym (drop-cons s 0 0 (omega arith)))
+
+  -- a value made again from what was read, and so the field
+  pub field-same : Bytes s → (v : List ℕ) → length v ≡ len → v ++ drop len (valueOf s) ≡ valueOf s → field tag v ++ afterField len s ≡ s
+  field-same bs v l e =
+      let t : v ≡ take len (valueOf s) = sym (take-at v (drop len (valueOf s)) len l) ∙ ap (take len) e in
+      rw t (field-is bs)
 
 -- where it stands in the whole input; x is what was answered for it
 pub field-room-at : (tag len : ℕ) (s : List ℕ) (at : ℕ) {x : Status} → x ≡ fieldStatus tag len (drop at s) → x ≡ Accepted → at + (headerSize + len) ≤ length s
-field-room-at tag len s at e g =
-    let r : headerSize + len ≤ length s - at = rw (length-drop at s) at (field-room tag len (drop at s) (sym e ∙ g)) in
-    omega arith
+field-room-at tag len s at e g = omega (arith, rw (length-drop at s) at (field-room tag len (drop at s) (sym e ∙ g)))
 
 pub value-at : (s : List ℕ) (at : ℕ) → drop (at + headerSize) s ≡ valueOf (drop at s)
 value-at s at = sym (drop-drop headerSize at s)

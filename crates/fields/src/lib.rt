@@ -7,7 +7,10 @@ ghost use Rattle.fields.specs.Field.{header, headerSize, endSize, endFie
 use outcome::Refusal;
 use outcome::Status;
 
-pub const HEADER_SIZE: usize = 3;
+// The length stands behind the tag, which is one byte.
+const LENGTH_AT: usize = 1;
+
+pub const HEADER_SIZE: usize = LENGTH_AT + bigendian::SIZE_16;
 
 // The end field: it has no value.
 pub const END_TAG: u8 = 255;
@@ -30,13 +33,10 @@ pub fn check_field(s: &[u8], at: usize, tag: u8, len: usize) -> Status
     if s[at] != tag {
         return Status::Refused(Refusal::WrongTag);
     }
-    if bigendian::read_u16(s, at + 1) as usize != len {
+    if bigendian::read_u16(s, at + LENGTH_AT) as usize != len {
         return Status::Refused(Refusal::WrongLength);
     }
-    if left - HEADER_SIZE < len {
-        return Status::Refused(Refusal::ValueCutShort);
-    }
-    Status::Accepted
+    outcome::check(len <= left - HEADER_SIZE, Refusal::ValueCutShort)
 }
 
 // The header of a field, over the front of out.
@@ -45,7 +45,7 @@ pub fn write_header(out: &mut [u8], tag: u8, len: u16)
     ensures { λ _. ⌜ now (out .exit) ≡ onto (header tag len) (now (out .entry)) ⌝ }
 {
     out[0] = tag;
-    bigendian::write_u16(&mut out[1..], len);
+    bigendian::write_u16(&mut out[LENGTH_AT..], len);
 }
 
 // The end field, over the front of out.

@@ -1,28 +1,29 @@
 -- The laws of runs of figures, once for every kind: read back what was written, write back what was read; and of tests over lists.
 -- Assumes nothing.
-use mathlib.Core.Path.{_≡_, refl, sym, ap, _∙_}
-use mathlib.Core.List.{List, [], _∷_, _++_, append-assoc}
-use mathlib.Core.Bool.{Bool, true, false, _&&_}
-use Prim.Native.Nat.{ℕ, zero, suc, _+_, _*_, _^_, _≤_, _<_}
+use mathlib.Core.Path.{_≡_, refl, ap, _∙_}
+use mathlib.Core.List.{List, [], _∷_, _++_}
+use mathlib.Core.Bool.{Bool, true, false, false≢true, _&&_}
+use Prim.Native.Nat.{ℕ, zero, suc, _*_, _^_, _≤_, _<_}
 use native.Mathlib.Omega.{arith}
-use native.Mathlib.Nat.{mul-zero, mul-suc, add-comm}
-use lib.ListN.{length, getD, take, drop, length-append, length-drop, take-append-drop}
-use lib.Seq.{take-at, drop-at, drop-drop}
+use native.Mathlib.Nat.{mul-suc, mul-comm}
+use lib.ListN.{length, getD, take, drop, length-drop, take-append-drop}
+use lib.Seq.{take-at, drop-at}
 use lib.IntN.{ℤ, pos, natAbs}
 use mir.Syntax.{Width}
 use mir.Val.{bits, hbits}
 use mir.Facts.{toZ-ofZ, ofZ-toZ, fits-ofZ}
 use borrow.Author.Tests.{leb-true, le-leb}
 use Rattle.integers.specs.Size.{sfits-leb}
-use Rattle.bigendian.specs.Number.{be, bytes}
+use Rattle.bigendian.specs.Number.{be}
 use Rattle.bigendian.specs.NumberLaws.{Bytes, bytes-drop, bytes-of, be-of, be-bytes, length-bytes}
-use Rattle.figures.specs.Figures.{Kind, unsigned, signed, upTo, within, items, figureAt, figures, after, spread, all}
+use Rattle.figures.specs.Figures.{Kind, unsigned, signed, upTo, within, figureAt, figures, after, figureBytes, spread, all}
+use Rattle.figures.specs.ItemLaws.{length-joined, Back, items-back, items-same}
 
 -- ---- tests over lists
 
 pub and-true : (a b : Bool) → (a && b) ≡ true → (a ≡ true) × (b ≡ true)
 and-true true b e = (refl, e)
-and-true false b e = let z : _≡_ {A = ℕ} 0 1 = cc in absurd (omega arith)
+and-true false b e = absurd (false≢true e)
 
 module _ {X : Type 0} (p : X → Bool) where
   pub all-append : (a b : List X) → all p a ≡ true → all p b ≡ true → all p (a ++ b) ≡ true
@@ -81,57 +82,48 @@ signed-lawful n w limit g h =
 
 -- ---- runs of figures
 
-pub length-items : {A : Type 0} (w : ℕ) (item : List ℕ → A) (n : ℕ) (v : List ℕ) → length (items w item n v) ≡ n
-unfolding items
-length-items w item zero v = refl
-length-items w item (suc n) v = ap suc (length-items w item n (drop w v))
-
 module _ {X : Type 0} (k : Kind X) where
   pub length-spread : (xs : List X) → length (spread k xs) ≡ k .width * length xs
   unfolding spread
-  length-spread [] = sym (mul-zero (k .width))
-  length-spread (x ∷ xs) =
-      length-append (bytes (k .width) (k .number x)) (spread k xs)
-      ∙ rw (length-bytes (k .width) (k .number x), length-spread xs, mul-suc (k .width) (length xs)) (omega arith)
+  length-spread xs =
+      length-joined (k .width) (figureAt k) (figureBytes k) (λ xs. Unit {0}) (λ x xs h. (length-bytes (k .width) (k .number x), tt)) xs tt
+      ∙ mul-comm (length xs) (k .width)
 
   pub after-spread : (n : ℕ) (xs : List X) (r : List ℕ) → length xs ≡ n → after k n (spread k xs ++ r) ≡ r
   after-spread n xs r e = drop-at (spread k xs) r (k .width * n) (length-spread xs ∙ rw e)
 
   module _ (f : X → Bool) (l : Lawful k f) where
-    -- what was written is read back
+    -- what was (figureBytes k) is read back
     pub figures-spread : (n : ℕ) (xs : List X) (r : List ℕ) → length xs ≡ n → all f xs ≡ true → figures k n (spread k xs ++ r) ≡ xs
-    unfolding items spread all
-    figures-spread zero [] r e g = refl
-    figures-spread (suc n) [] r e g = absurd (omega arith)
-    figures-spread zero (x ∷ xs) r e g = absurd (omega arith)
-    figures-spread (suc n) (x ∷ xs) r e g =
-        let w = and-true (f x) (all f xs) g in
-        let b : List ℕ = bytes (k .width) (k .number x) in
-        let m : length xs ≡ n = omega arith in
-        let s : length b ≡ k .width = length-bytes (k .width) (k .number x) in
-        let front : figureAt k (b ++ (spread k xs ++ r)) ≡ x =
-        ap (λ (v : List ℕ). k .figure (be v)) (take-at b (spread k xs ++ r) (k .width) s)
-        ∙ ap (k .figure) (be-bytes (k .width) (k .number x) (l .fits x (w .0)))
-        ∙ l .back x (w .0) in
-        rw (append-assoc b (spread k xs) r, front, drop-at b (spread k xs ++ r) (k .width) s, figures-spread n xs r m (w .1))
+    unfolding spread all
+    figures-spread n xs r e g = rw (← e) (items-back (k .width) (figureAt k) (figureBytes k) (λ xs. all f xs ≡ true) next xs r g)
+      where
+        next : (x : X) (xs : List X) → all f (x ∷ xs) ≡ true → Back (k .width) (figureAt k) (figureBytes k) x × (all f xs ≡ true)
+        next x xs h =
+            let w = and-true (f x) (all f xs) h in
+            let s : length (figureBytes k x) ≡ k .width = length-bytes (k .width) (k .number x) in (
+              record {
+                size = s;
+                read = λ r.
+                    ap (λ (v : List ℕ). k .figure (be v)) (take-at (figureBytes k x) r (k .width) s)
+                    ∙ ap (k .figure) (be-bytes (k .width) (k .number x) (l .fits x (w .0)))
+                    ∙ l .back x (w .0);
+              },
+              w .1,
+            )
 
-    -- what was read is written back
+    -- what was read is (figureBytes k) back
     pub spread-figures : (n : ℕ) (v : List ℕ) → Bytes v → k .width * n ≤ length v → spread k (figures k n v) ++ after k n v ≡ v
-    unfolding items spread
-    spread-figures zero v bv h = rw (mul-zero (k .width))
-    spread-figures (suc n) v bv h =
-        let m : k .width * suc n ≡ k .width + k .width * n = mul-suc (k .width) n ∙ add-comm (k .width * n) (k .width) in
-        let d : k .width * n ≤ length (drop (k .width) v) = simp length-drop (omega arith) in
-        let a : k .width ≤ length v = omega arith in
-        let t : List ℕ = take (k .width) v in
-        let ih : spread k (figures k n (drop (k .width) v)) ++ after k n (drop (k .width) v) ≡ drop (k .width) v =
-        spread-figures n (drop (k .width) v) (bytes-drop (k .width) bv) d in
-        rw (
-          m,
-          ← (drop-drop (k .width * n) (k .width) v),
-          l .same (be t) (be-of (k .width) v bv a),
-          bytes-of (k .width) v bv a,
-          append-assoc t (spread k (figures k n (drop (k .width) v))) (drop (k .width * n) (drop (k .width) v)),
-          ih,
-        )
-        (take-append-drop (k .width) v)
+    unfolding spread
+    spread-figures n v bv h = rw (mul-comm (k .width) n) (items-same (k .width) (figureAt k) (figureBytes k) Ok next n v (bv, h))
+      where
+        Ok : ℕ → List ℕ → Type 0
+        Ok n v = Bytes v × (k .width * n ≤ length v)
+
+        next : (n : ℕ) (v : List ℕ) → Ok (suc n) v → (figureBytes k (figureAt k v) ++ drop (k .width) v ≡ v) × Ok n (drop (k .width) v)
+        next n v h =
+            let m = mul-suc (k .width) n in
+            let a : k .width ≤ length v = omega (arith, h .1) in (
+              rw (l .same (be (take (k .width) v)) (be-of (k .width) v (h .0) a), bytes-of (k .width) v (h .0) a) (take-append-drop (k .width) v),
+              (bytes-drop (k .width) (h .0), simp length-drop (omega (arith, h .1))),
+            )

@@ -42,7 +42,7 @@ abbrev pub upTo : ℕ → ℕ → Bool
 upTo limit x = leb x limit
 
 abbrev pub within : ℕ → ℤ → Bool
-within limit z = leb (natAbs z) limit
+within limit z = upTo limit (natAbs z)
 
 -- n items of a width, one after another from the front of v
 unfoldable pub items : {A : Type 0} → ℕ → (List ℕ → A) → ℕ → List ℕ → List A
@@ -61,9 +61,12 @@ module _ {X : Type 0} where
   abbrev pub after : Kind X → ℕ → List ℕ → List ℕ
   after k n v = drop (k .width * n) v
 
-  -- the bytes of a run of figures
+  -- the bytes of a figure, and of a run of figures
+  abbrev pub figureBytes : Kind X → X → List ℕ
+  figureBytes k x = bytes (k .width) (k .number x)
+
   unfoldable pub spread : Kind X → List X → List ℕ
-  spread k xs = joined (λ x. bytes (k .width) (k .number x)) xs
+  spread k xs = joined (figureBytes k) xs
 
   unfoldable pub all : (X → Bool) → List X → Bool
   all p [] = true
@@ -74,6 +77,10 @@ pub record Answered {S A : Type 0} (yes due : S) (value : A) (r : S) (out : A) :
   pub status : r ≡ due
   pub made : r ≡ yes → out ≡ value
 
--- what reading as many figures as out has places, from the front of v, gives: whether all pass the test and, where they do, the figures in out
+-- what is answered of a run of figures: whether all pass the test and, where they do, the figures in out
+abbrev pub RunAnswered : {X : Type 0} → (X → Bool) → List X → Bool → List X → Type 0
+RunAnswered f l r out = Answered true (all f l) l r out
+
+-- the same of reading as many figures as out has places, from the front of v
 abbrev pub Read : {X : Type 0} → Kind X → (X → Bool) → List ℕ → List X → Bool → List X → Type 0
-Read k f v entry r exit = Answered true (all f (figures k (length entry) v)) (figures k (length entry) v) r exit
+Read k f v entry r exit = RunAnswered f (figures k (length entry) v) r exit

@@ -1,3 +1,4 @@
 pub mod Figures
+pub mod ItemLaws
 pub mod FigureLaws
 pub mod LoopLaws

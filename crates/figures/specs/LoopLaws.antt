@@ -3,7 +3,7 @@
 -- Assumes nothing.
 use mathlib.Core.Path.{_≡_, refl, sym, _∙_}
 use mathlib.Core.List.{List, [], _∷_, _++_, append-nil}
-use mathlib.Core.Bool.{Bool, true, false}
+use mathlib.Core.Bool.{Bool, true, false, false≢true}
 use Prim.Native.Nat.{ℕ, suc, _+_, _*_, _-_, _^_, _≤_, _<_}
 use native.Mathlib.Omega.{arith}
 use native.Mathlib.Nat.{mul-suc, sub-zero}
@@ -16,18 +16,21 @@ use lib.IntN.{ℤ}
 use mir.Syntax.{Width, w64}
 use mir.Val.{hbits, toZ, ofZ}
 use Rattle.integers.specs.Signed.{wide-is}
-use Rattle.bigendian.specs.Number.{bytes}
 use Rattle.buffer.specs.Buffer.{onto, run}
 use Rattle.buffer.specs.RunLaws.{joined-run, Running, run-ended}
-use Rattle.figures.specs.Figures.{Kind, within, items, figureAt, figures, spread, all, Read}
+use Rattle.figures.specs.Figures.{Kind, within, items, figureAt, figures, figureBytes, spread, all, Read}
 
 pub no : {P : Type 0} → false ≡ true → P
-no e = let z : _≡_ {A = ℕ} 0 1 = cc in absurd (omega arith)
+no e = absurd (false≢true e)
 
 -- the test of a signed figure of a width, made in 64 bits
 pub tested : (w : Width) → T (leb (hbits w) (hbits w64)) → (z : ℤ) → mag z < 2 ^ hbits w → (limit : ℕ) {r b : Bool}
     → r ≡ within limit (toZ w64 (ofZ w64 (toZ w (ofZ w z)))) → r ≡ b → within limit z ≡ b
 tested w narrow z h limit e g = sym (rw (wide-is w narrow z (record { sfits = h })) at e) ∙ g
+
+-- what is left is the next one, and what is left behind it
+left : (n i : ℕ) → i < n → n - i ≡ suc (n - (i + 1))
+left n i h = omega arith
 
 -- ---- reading n items from `at` on, of which i are done: what is left, read on from p, gives the answer and the items of the whole
 
@@ -41,33 +44,23 @@ module _ {A S : Type 0} (w : ℕ) (item : List ℕ → A) (answer : ℕ → List
   begun = record { count = omega arith; status = rw (sub-zero n); made = rw (sub-zero n) }
 
   module _ {done : List A} {i p : ℕ} (r : Reading done i p) where
-    left : i < n → n - i ≡ suc (n - (i + 1))
-    left h = omega arith
-
     -- the next item's answer is the whole's
     pub stopped : i < n → {x : S} → ((m : ℕ) → x ≡ answer (suc m) (drop p s)) → x ≡ answer n (drop at s)
-    stopped h e =
-        let q : answer (suc (n - (i + 1))) (drop p s) ≡ answer n (drop at s) = rw (left h) at (r .status) in
-        e _ ∙ q
+    stopped h e = e _ ∙ rw (left n i h) at (r .status)
 
     -- the whole's answer is what the items behind the next one give
     pub turn : i < n → ((m : ℕ) → answer m (drop w (drop p s)) ≡ answer (suc m) (drop p s)) → Reading (done ++ (item (drop p s) ∷ [])) (i + 1) (p + w)
     unfolding items
     turn h e =
-        let q : answer (suc (n - (i + 1))) (drop p s) ≡ answer n (drop at s) = rw (left h) at (r .status) in
-        let d : done ++ items w item (suc (n - (i + 1))) (drop p s) ≡ items w item n (drop at s) = rw (left h) at (r .made) in
         record {
           count = omega arith;
-          status = rw (← (drop-drop w p s)) (e _ ∙ q);
-          made = rw (append-snoc done (item (drop p s)) (items w item (n - (i + 1)) (drop (p + w) s)), ← (drop-drop w p s)) d;
+          status = rw (← (drop-drop w p s)) (e _ ∙ rw (left n i h) at (r .status));
+          made = rw (append-snoc done (item (drop p s)) (items w item (n - (i + 1)) (drop (p + w) s)), ← (drop-drop w p s)) (rw (left n i h) at (r .made));
         }
 
     pub ended : n ≤ i → (answer 0 (drop p s) ≡ answer n (drop at s)) × (done ≡ items w item n (drop at s))
     unfolding items
-    ended h =
-        let m : n - i ≡ 0 = omega arith in
-        let d : done ++ items w item 0 (drop p s) ≡ items w item n (drop at s) = rw m at (r .made) in
-        (rw m at (r .status), sym (append-nil done) ∙ d)
+    ended h = let m : n - i ≡ 0 = omega arith in (rw m at (r .status), sym (append-nil done) ∙ rw m at (r .made))
 
 -- ---- reading as many figures as out has places
 
@@ -85,9 +78,7 @@ module _ {X : Type 0} {k : Kind X} {f : X → Bool} {s : List ℕ} {at : ℕ} {o
     -- the next figure has its bytes, and what is left has its own
     after-next : i < length out → p + k .width + k .width * (length out₀ - (i + 1)) ≤ length s
     after-next h =
-        let m : length out₀ - i ≡ suc (length out₀ - (i + 1)) = omega (arith, r .same) in
-        let q : p + k .width * suc (length out₀ - (i + 1)) ≤ length s = rw m at (r .room) in
-        omega (arith, mul-suc (k .width) (length out₀ - (i + 1)))
+        omega (arith, rw (left (length out₀) i (omega (arith, r .same)), mul-suc (k .width) (length out₀ - (i + 1))) at (r .room))
 
     pub read-next : i < length out → p + k .width ≤ length s
     read-next h = omega (arith, after-next h)
@@ -125,15 +116,11 @@ module _ {X : Type 0} {f : X → Bool} {l : List X} where
 
   pub test-stopped : (d : X) {i : ℕ} → Testing f l i → i < length l → f (getD l i d) ≡ false → false ≡ all f l
   unfolding all
-  test-stopped d {i} r h t =
-      let q : all f (getD l i d ∷ drop (suc i) l) ≡ all f l = rw (drop-cons l i d h) at (r .test) in
-      rw t at q
+  test-stopped d {i} r h t = rw (drop-cons l i d h, t) at (r .test)
 
   pub test-turn : (d : X) {i : ℕ} → Testing f l i → i < length l → f (getD l i d) ≡ true → Testing f l (i + 1)
   unfolding all
-  test-turn d {i} r h t =
-      let q : all f (getD l i d ∷ drop (suc i) l) ≡ all f l = rw (drop-cons l i d h) at (r .test) in
-      record { inside = omega arith; test = rw (add-one i) (rw t at q) }
+  test-turn d {i} r h t = record { inside = omega arith; test = rw (add-one i) (rw (drop-cons l i d h, t) at (r .test)) }
 
   pub test-ended : {i : ℕ} → Testing f l i → length l ≤ i → true ≡ all f l
   unfolding all
@@ -142,12 +129,12 @@ module _ {X : Type 0} {f : X → Bool} {l : List X} where
 -- ---- writing a list of figures over the front of a buffer
 
 module _ {X : Type 0} (k : Kind X) (d : X) (l : List X) where
-  pub spread-run : (i : ℕ) → i ≤ length l → spread k (take i l) ≡ run i (λ j. bytes (k .width) (k .number (getD l j d)))
+  pub spread-run : (i : ℕ) → i ≤ length l → spread k (take i l) ≡ run i (λ j. figureBytes k (getD l j d))
   unfolding spread
-  spread-run i h = joined-run (λ x. bytes (k .width) (k .number x)) d l i h
+  spread-run i h = joined-run (figureBytes k) d l i h
 
   abbrev pub Writing : List ℕ → List ℕ → ℕ → ℕ → Type 0
-  Writing out₀ out i p = Running (k .width) (λ j. bytes (k .width) (k .number (getD l j d))) (length l) 0 out₀ out i p
+  Writing out₀ out i p = Running (k .width) (λ j. figureBytes k (getD l j d)) (length l) 0 out₀ out i p
 
   pub write-ended : {out₀ out : List ℕ} {i p : ℕ} → Writing out₀ out i p → length l ≤ i → out ≡ onto (spread k l) out₀
   write-ended r h = run-ended r h .is ∙ rw (← (spread-run (length l) (omega arith)), take-all (length l) l (omega arith))

@@ -5,6 +5,8 @@ ghost use Prim.Native.Nat.{_+_, _*_, _≤_};
 ghost use lib.ListN.{length, drop};
 ghost use Rattle.buffer.specs.Buffer.{onto};
 ghost use Rattle.figures.specs.Figures.{i16, u16, i32, u32, upTo, within as fits, spread, all, Read};
+use bigendian::SIZE_16;
+use bigendian::SIZE_32;
 
 // Whether the size of a number is at most the limit.
 pub fn within(z: i64, limit: u64) -> bool
@@ -16,7 +18,7 @@ pub fn within(z: i64, limit: u64) -> bool
 // Reading: as many figures as out has places, from a place of s on. It says whether all are within the limit; where one is not, what out holds is left open.
 
 pub fn read_i16s(s: &[u8], at: usize, limit: u64, out: &mut [i16]) -> bool
-    requires { ⌜ at + 2 * length (now out) ≤ length (now s) ⌝ }
+    requires { ⌜ at + i16 .width * length (now out) ≤ length (now s) ⌝ }
     ensures { λ r. ⌜ Read i16 (fits limit) (drop at (now (s .entry))) (now (out .entry)) r (now (out .exit)) ⌝ }
 {
     let mut i = 0;
@@ -28,13 +30,13 @@ pub fn read_i16s(s: &[u8], at: usize, limit: u64, out: &mut [i16]) -> bool
         }
         out[i] = x;
         i += 1;
-        p += 2;
+        p += SIZE_16;
     }
     true
 }
 
 pub fn read_u16s(s: &[u8], at: usize, limit: u64, out: &mut [u16]) -> bool
-    requires { ⌜ at + 2 * length (now out) ≤ length (now s) ⌝ }
+    requires { ⌜ at + u16 .width * length (now out) ≤ length (now s) ⌝ }
     ensures { λ r. ⌜ Read u16 (upTo limit) (drop at (now (s .entry))) (now (out .entry)) r (now (out .exit)) ⌝ }
 {
     let mut i = 0;
@@ -46,13 +48,13 @@ pub fn read_u16s(s: &[u8], at: usize, limit: u64, out: &mut [u16]) -> bool
         }
         out[i] = x;
         i += 1;
-        p += 2;
+        p += SIZE_16;
     }
     true
 }
 
 pub fn read_i32s(s: &[u8], at: usize, limit: u64, out: &mut [i32]) -> bool
-    requires { ⌜ at + 4 * length (now out) ≤ length (now s) ⌝ }
+    requires { ⌜ at + i32 .width * length (now out) ≤ length (now s) ⌝ }
     ensures { λ r. ⌜ Read i32 (fits limit) (drop at (now (s .entry))) (now (out .entry)) r (now (out .exit)) ⌝ }
 {
     let mut i = 0;
@@ -64,13 +66,13 @@ pub fn read_i32s(s: &[u8], at: usize, limit: u64, out: &mut [i32]) -> bool
         }
         out[i] = x;
         i += 1;
-        p += 4;
+        p += SIZE_32;
     }
     true
 }
 
 pub fn read_u32s(s: &[u8], at: usize, limit: u64, out: &mut [u32]) -> bool
-    requires { ⌜ at + 4 * length (now out) ≤ length (now s) ⌝ }
+    requires { ⌜ at + u32 .width * length (now out) ≤ length (now s) ⌝ }
     ensures { λ r. ⌜ Read u32 (upTo limit) (drop at (now (s .entry))) (now (out .entry)) r (now (out .exit)) ⌝ }
 {
     let mut i = 0;
@@ -82,7 +84,7 @@ pub fn read_u32s(s: &[u8], at: usize, limit: u64, out: &mut [u32]) -> bool
         }
         out[i] = x;
         i += 1;
-        p += 4;
+        p += SIZE_32;
     }
     true
 }
@@ -144,7 +146,7 @@ pub fn all_u32(a: &[u32], limit: u64) -> bool
 // Writing: the figures of the list, over the front of out.
 
 pub fn write_i16s(out: &mut [u8], a: &[i16])
-    requires { ⌜ 2 * length (now a) ≤ length (now out) ⌝ }
+    requires { ⌜ i16 .width * length (now a) ≤ length (now out) ⌝ }
     ensures { λ _. ⌜ now (out .exit) ≡ onto (spread i16 (now (a .entry))) (now (out .entry)) ⌝ }
 {
     let mut i = 0;
@@ -152,12 +154,12 @@ pub fn write_i16s(out: &mut [u8], a: &[i16])
     while i < a.len() {
         bigendian::write_i16(&mut out[p..], a[i]);
         i += 1;
-        p += 2;
+        p += SIZE_16;
     }
 }
 
 pub fn write_u16s(out: &mut [u8], a: &[u16])
-    requires { ⌜ 2 * length (now a) ≤ length (now out) ⌝ }
+    requires { ⌜ u16 .width * length (now a) ≤ length (now out) ⌝ }
     ensures { λ _. ⌜ now (out .exit) ≡ onto (spread u16 (now (a .entry))) (now (out .entry)) ⌝ }
 {
     let mut i = 0;
@@ -165,12 +167,12 @@ pub fn write_u16s(out: &mut [u8], a: &[u16])
     while i < a.len() {
         bigendian::write_u16(&mut out[p..], a[i]);
         i += 1;
-        p += 2;
+        p += SIZE_16;
     }
 }
 
 pub fn write_i32s(out: &mut [u8], a: &[i32])
-    requires { ⌜ 4 * length (now a) ≤ length (now out) ⌝ }
+    requires { ⌜ i32 .width * length (now a) ≤ length (now out) ⌝ }
     ensures { λ _. ⌜ now (out .exit) ≡ onto (spread i32 (now (a .entry))) (now (out .entry)) ⌝ }
 {
     let mut i = 0;
@@ -178,12 +180,12 @@ pub fn write_i32s(out: &mut [u8], a: &[i32])
     while i < a.len() {
         bigendian::write_i32(&mut out[p..], a[i]);
         i += 1;
-        p += 4;
+        p += SIZE_32;
     }
 }
 
 pub fn write_u32s(out: &mut [u8], a: &[u32])
-    requires { ⌜ 4 * length (now a) ≤ length (now out) ⌝ }
+    requires { ⌜ u32 .width * length (now a) ≤ length (now out) ⌝ }
     ensures { λ _. ⌜ now (out .exit) ≡ onto (spread u32 (now (a .entry))) (now (out .entry)) ⌝ }
 {
     let mut i = 0;
@@ -191,6 +193,6 @@ pub fn write_u32s(out: &mut [u8], a: &[u32])
     while i < a.len() {
         bigendian::write_u32(&mut out[p..], a[i]);
         i += 1;
-        p += 4;
+        p += SIZE_32;
     }
 }

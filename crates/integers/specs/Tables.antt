@@ -4,7 +4,7 @@ use mathlib.Core.Path.{_≡_, refl, ap, _∙_, sym}
 use mathlib.Core.Bool.{cond}
 use mathlib.Core.List.{List, [], _∷_}
 use Prim.Native.Nat.{ℕ, zero, suc, _+_, _*_, _-_, _<_, _≤_, suc-le-suc}
-use native.Mathlib.Nat.{le-of-suc-le-suc, add-zero, mul-le-mul}
+use native.Mathlib.Nat.{le-of-suc-le-suc, add-zero, suc-mul, mul-le-mul}
 use native.Mathlib.Numerals.{add-one}
 use native.Mathlib.Omega.{arith}
 use native.Mathlib.Decide.{ℕ-discrete, decLt}
@@ -183,9 +183,9 @@ module _ {X : Type 0} (f : ℕ → X) where
         (λ p q o. absurd (omega arith))
         (λ o. refl)
 
--- row i's part of n rows that stand row after row ends within eight times eight places
-pub row-inside : (n i : ℕ) → n ≤ 8 → i < n → i * n + n ≤ 64
-row-inside n i h k = omega (arith, mul-le-mul {n₁ = i + 1} {n₂ = 8} {m₂ = 8} (omega arith) h)
+-- row i's part of n rows that stand row after row ends within m times m places
+pub row-inside : (m n i : ℕ) → n ≤ m → i < n → i * n + n ≤ m * m
+row-inside m n i h k = omega (arith, suc-mul i n, mul-le-mul {n₁ = suc i} {n₂ = m} {m₂ = m} (omega arith) h)
 
 -- ---- how large the entries are
 

@@ -3,6 +3,7 @@ use mathlib.Core.Path.{_≡_, refl, ap, ap₂, _∙_}
 use Prim.Native.Nat.{ℕ, suc, _*_, _+_, _<_, _≤_}
 use lib.Dec.{eqb}
 use lib.IntN.{ℤ, pos, natAbs, _-ℤ_, _*ℤ_}
+use Rattle.limits.specs.Limits.{mostTanks}
 use Rattle.integers.specs.Sums.{sum-cong, total-cong}
 use Rattle.fractions.specs.Greatest.{first-greatest-cong}
 use Rattle.judge.specs.System.{Row, Trial, System, row, residual, reach}
@@ -10,7 +11,7 @@ use Rattle.judge.specs.Judgement.{within, factor, no-factor, first-unmet
 use Rattle.judge.specs.Laws.{first-not-cong, deciding-below, at-residuals, at-reaches}
 use Rattle.judge.specs.Finding.{Finding, finding, Agrees}
 
-pub judgement-agrees : (s : System) (t : Trial) → 0 < s .n → s .n ≤ 8 → Agrees s t (finding (judgement s t))
+pub judgement-agrees : (s : System) (t : Trial) → 0 < s .n → s .n ≤ mostTanks → Agrees s t (finding (judgement s t))
 unfolding judgement
 judgement-agrees s t h k =
     let d = deciding-below s t h in

@@ -5,6 +5,7 @@ use Prim.Native.Nat.{ℕ, zero, suc}
 use lib.Dec.{leb, eqb}
 use lib.ListN.{getD}
 use lib.IntN.{ℤ, pos, natAbs}
+use Rattle.limits.specs.Limits.{mostTanks}
 use Rattle.integers.specs.Tables.{filled}
 use Rattle.fractions.specs.Fraction.{_over_, Fraction}
 use Rattle.fractions.specs.Greatest.{first-greatest}
@@ -43,10 +44,10 @@ deciding s t = first-greatest (λ i. factor (residual (row s i) t) (reach (row s
 
 -- residual and reach of each row, in eight places
 abbrev pub residuals : System → Trial → List ℤ
-residuals s t = filled 8 (s .n) (pos 0) (λ i. residual (row s i) t)
+residuals s t = filled mostTanks (s .n) (pos 0) (λ i. residual (row s i) t)
 
 abbrev pub reaches : System → Trial → List ℕ
-reaches s t = filled 8 (s .n) 0 (λ i. reach (row s i) t)
+reaches s t = filled mostTanks (s .n) 0 (λ i. reach (row s i) t)
 
 -- the whole judgement; whether the deciding row has a factor is read off its residual and reach
 unfoldable pub judgement : System → Trial → Judgement

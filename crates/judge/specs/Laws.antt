@@ -9,6 +9,7 @@ use lib.Dec.{eqb}
 use lib.ListN.{getD}
 use lib.IntN.{ℤ, pos}
 use mathlib.Core.List.{List, []}
+use Rattle.limits.specs.Limits.{mostTanks}
 use Rattle.integers.specs.Tables.{getD-filled}
 use Rattle.fractions.specs.Greatest.{first-greatest-cong, first-greatest-below}
 use Rattle.judge.specs.declared.Standing.{Standing}
@@ -93,12 +94,12 @@ deciding-below s t h = first-greatest-below _ (s .n) (s .n) (omega arith) h
 
 -- ---- the whole, from its parts
 
-module _ (s : System) (t : Trial) (h : s .n ≤ 8) where
+module _ (s : System) (t : Trial) (h : s .n ≤ mostTanks) where
   pub at-residuals : (i : ℕ) → i < s .n → getD (residuals s t) i (pos 0) ≡ residual (row s i) t
-  at-residuals i l = getD-filled (pos 0) (λ i. residual (row s i) t) 8 (s .n) i l (omega arith)
+  at-residuals i l = getD-filled (pos 0) (λ i. residual (row s i) t) mostTanks (s .n) i l (omega arith)
 
   pub at-reaches : (i : ℕ) → i < s .n → getD (reaches s t) i 0 ≡ reach (row s i) t
-  at-reaches i l = getD-filled 0 (λ i. reach (row s i) t) 8 (s .n) i l (omega arith)
+  at-reaches i l = getD-filled 0 (λ i. reach (row s i) t) mostTanks (s .n) i l (omega arith)
 
   unmet-is : first-not (λ i. within (getD (residuals s t) i (pos 0)) (getD (reaches s t) i 0)) (s .n) ≡ first-unmet s t
   unfolding first-unmet
@@ -120,7 +121,7 @@ module _ (s : System) (t : Trial) (h : s .n ≤ 8) where
   judgement-concluded = rw deciding-is
 
 -- the standing, from residuals and reaches that were formed each from its own part of the system
-pub measured-by-parts : (n : ℕ) (A : List ℤ) (E : List ℕ) (b : List ℤ) (f : List ℕ) (t : Trial) → n ≤ 8 → (u : ℕ) (R : List ℤ) (T : List ℕ)
+pub measured-by-parts : (n : ℕ) (A : List ℤ) (E : List ℕ) (b : List ℤ) (f : List ℕ) (t : Trial) → n ≤ mostTanks → (u : ℕ) (R : List ℤ) (T : List ℕ)
     → R ≡ residuals (system n A [] b []) t → T ≡ reaches (system n [] E [] f) t → u ≡ first-not (λ i. within (getD R i (pos 0)) (getD T i 0)) n
     → record { unmet = u; residuals = R; reaches = T } ≡ standing (system n A E b f) t
 unfolding residual reach

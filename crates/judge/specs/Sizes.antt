@@ -4,6 +4,7 @@ use native.Mathlib.Nat.{mul-le-mul, mul-le-mul-left}
 use native.Mathlib.Omega.{arith}
 use lib.ListN.{getD}
 use lib.IntN.{ℤ, pos, natAbs, _*ℤ_}
+use Rattle.limits.specs.Limits.{mostTanks}
 use Rattle.integers.specs.Size.{natAbs-*ℤ, natAbs-subℤ, product-ok}
 use Rattle.integers.specs.Sums.{sum, sum-bound, total-bound}
 use Rattle.integers.specs.Tables.{all-filled}
@@ -29,7 +30,7 @@ module _ (s : System) (t : Trial) (a b y : ℕ)
   -- the same of every residual that a standing holds
   pub standing-size : (i : ℕ) → natAbs (getD (standing s t .residuals) i (pos 0)) ≤ t .D * b + t .n * (a * y)
   standing-size =
-      all-filled (λ (z : ℤ). natAbs z ≤ t .D * b + t .n * (a * y)) (pos 0) (omega arith) 8 (s .n) (λ i. residual (row s i) t) (λ i l. residual-size i)
+      all-filled (λ (z : ℤ). natAbs z ≤ t .D * b + t .n * (a * y)) (pos 0) (omega arith) mostTanks (s .n) (λ i. residual (row s i) t) (λ i l. residual-size i)
 
 -- tolerances of at most e, of right-hand sides of at most f, figures of at most y
 pub reach-size : (s : System) (t : Trial) (e f y : ℕ)

@@ -4,6 +4,7 @@ use mathlib.Core.List.{List}
 use Prim.Native.Nat.{ℕ, _+_, _*_}
 use lib.ListN.{getD}
 use lib.IntN.{ℤ, pos, natAbs, _-ℤ_, _*ℤ_}
+use Rattle.limits.specs.Limits.{mostTanks}
 use Rattle.integers.specs.Sums.{sum, total}
 use Rattle.integers.specs.Tables.{table}
 
@@ -55,4 +56,4 @@ trial n D Y = record { n = n; D = D; Y = λ j. getD Y j (pos 0) }
 
 -- the trial whose figures are all zero
 abbrev pub zero-trial : ℕ → ℕ → Trial
-zero-trial n D = trial n D (table 8 (λ _. pos 0))
+zero-trial n D = trial n D (table mostTanks (λ _. pos 0))

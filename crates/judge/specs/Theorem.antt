@@ -7,6 +7,7 @@ use native.Mathlib.Omega.{arith}
 use borrow.Author.Tests.{leb-true, leb-false, eqb-true, eqb-false, ne-eqb}
 use lib.Dec.{eqb}
 use lib.IntN.{ℤ, natAbs}
+use Rattle.limits.specs.Limits.{mostTanks}
 use Rattle.fractions.specs.Fraction.{below}
 use Rattle.fractions.specs.Laws.{cross-from-base, cross-to-base}
 use Rattle.fractions.specs.Greatest.{First, first-greatest-is}
@@ -153,5 +154,5 @@ module _ (s : System) (t : Trial) (h : 0 < s .n) where
         }
 
   -- the judgement itself
-  pub judgement-justified : s .n ≤ 8 → Justified s t (finding (judgement s t))
+  pub judgement-justified : s .n ≤ mostTanks → Justified s t (finding (judgement s t))
   judgement-justified k = justified (finding (judgement s t)) (judgement-agrees s t h k)

@@ -5,6 +5,7 @@ use Prim.Native.Nat.{ℕ, _+_, _*_, _≤_}
 use native.Mathlib.Nat.{add-zero, mul-zero}
 use lib.ListN.{getD}
 use lib.IntN.{ℤ, pos, natAbs, _-ℤ_, _*ℤ_, *ℤ-zero}
+use Rattle.limits.specs.Limits.{mostTanks}
 use Rattle.integers.specs.Ring.{subℤ-zero}
 use Rattle.integers.specs.Sums.{sum-none, total-none}
 use Rattle.integers.specs.Tables.{filled, all-table}
@@ -14,7 +15,7 @@ use Rattle.judge.specs.Laws.{measured}
 
 module _ (n D : ℕ) where
   figure : (j : ℕ) → zero-trial n D .Y j ≡ pos 0
-  figure = all-table (λ (y : ℤ). y ≡ pos 0) (pos 0) refl 8 (λ _. pos 0) (λ i. refl)
+  figure = all-table (λ (y : ℤ). y ≡ pos 0) (pos 0) refl mostTanks (λ _. pos 0) (λ i. refl)
 
   residual-zero : (r : Row) → residual r (zero-trial n D) ≡ pos D *ℤ r .b
   unfolding residual
@@ -27,19 +28,19 @@ module _ (n D : ℕ) where
 
 -- in eight places: D b and D f of each row
 abbrev pub scaled-sides : ℕ → ℕ → List ℤ → List ℤ
-scaled-sides n D b = filled 8 n (pos 0) (λ i. pos D *ℤ getD b i (pos 0))
+scaled-sides n D b = filled mostTanks n (pos 0) (λ i. pos D *ℤ getD b i (pos 0))
 
 abbrev pub scaled-tolerances : ℕ → ℕ → List ℕ → List ℕ
-scaled-tolerances n D f = filled 8 n 0 (λ i. D * getD f i 0)
+scaled-tolerances n D f = filled mostTanks n 0 (λ i. D * getD f i 0)
 
 pub zero-residuals : (s : System) (D : ℕ) → scaled-sides (s .n) D (s .right-sides) ≡ residuals s (zero-trial (s .n) D)
-zero-residuals s D = ap (λ (f : ℕ → ℤ). filled 8 (s .n) (pos 0) f) (fun-ext (λ i. sym (residual-zero (s .n) D (row s i))))
+zero-residuals s D = ap (λ (f : ℕ → ℤ). filled mostTanks (s .n) (pos 0) f) (fun-ext (λ i. sym (residual-zero (s .n) D (row s i))))
 
 pub zero-reaches : (s : System) (D : ℕ) → scaled-tolerances (s .n) D (s .right-tolerances) ≡ reaches s (zero-trial (s .n) D)
-zero-reaches s D = ap (λ (f : ℕ → ℕ). filled 8 (s .n) 0 f) (fun-ext (λ i. sym (reach-zero (s .n) D (row s i))))
+zero-reaches s D = ap (λ (f : ℕ → ℕ). filled mostTanks (s .n) 0 f) (fun-ext (λ i. sym (reach-zero (s .n) D (row s i))))
 
 -- what the zero trial leaves, from these
-pub zero-measured : (s : System) (D u : ℕ) (R : List ℤ) (T : List ℕ) → s .n ≤ 8 → R ≡ scaled-sides (s .n) D (s .right-sides)
+pub zero-measured : (s : System) (D u : ℕ) (R : List ℤ) (T : List ℕ) → s .n ≤ mostTanks → R ≡ scaled-sides (s .n) D (s .right-sides)
     → T ≡ scaled-tolerances (s .n) D (s .right-tolerances) → u ≡ first-not (λ i. within (getD R i (pos 0)) (getD T i 0)) (s .n)
     → record { unmet = u; residuals = R; reaches = T } ≡ standing s (zero-trial (s .n) D)
 zero-measured s D u R T h eR eT eu = measured s (zero-trial (s .n) D) h u R T (eR ∙ zero-residuals s D) (eT ∙ zero-reaches s D) eu

@@ -1,10 +1,13 @@
 // The judgement of a trial answer, exactly, by the theorem of Oettli and Prager.
 use integers::magnitude;
+use limits::MOST_COEFFICIENTS;
+use limits::MOST_TANKS;
 ghost use mathlib.Core.Path.{_≡_};
 ghost use mathlib.Core.List.{[]};
 ghost use Prim.Native.Nat.{_+_, _*_, _^_, _≤_, _<_};
 ghost use lib.ListN.{getD};
 ghost use lib.IntN.{ℤ, pos, natAbs, _-ℤ_, _*ℤ_};
+ghost use Rattle.limits.specs.Limits.{mostTanks, mostCoefficients};
 ghost use Rattle.integers.specs.Sums.{sum, total};
 ghost use Rattle.fractions.specs.Fraction.{order};
 ghost use Rattle.fractions.specs.Greatest.{is-greater, first-greatest};
@@ -32,11 +35,11 @@ fn row_residual<'a>(
     n: usize,
     from: usize,
     scale: u16,
-    coefficients: &'a [i16; 64],
+    coefficients: &'a [i16; MOST_COEFFICIENTS],
     right_side: i32,
-    trial: &'a [i32; 8],
+    trial: &'a [i32; MOST_TANKS],
 ) -> i64
-    requires { ⌜ (n ≤ 8) × (from + n ≤ 64) ⌝ }
+    requires { ⌜ (n ≤ mostTanks) × (from + n ≤ mostCoefficients) ⌝ }
     ensures { λ r. ⌜ r ≡ pos scale *ℤ «right_side» -ℤ sum n (λ j. getD (now (coefficients .entry)) (from + j) (pos 0) *ℤ getD (now (trial .entry)) j (pos 0)) ⌝ }
 {
     let mut s: i64 = 0;
@@ -62,11 +65,11 @@ fn row_reach<'a>(
     n: usize,
     from: usize,
     scale: u16,
-    tolerances: &'a [u16; 64],
+    tolerances: &'a [u16; MOST_COEFFICIENTS],
     right_tolerance: u32,
-    trial: &'a [i32; 8],
+    trial: &'a [i32; MOST_TANKS],
 ) -> u64
-    requires { ⌜ (n ≤ 8) × (from + n ≤ 64) ⌝ }
+    requires { ⌜ (n ≤ mostTanks) × (from + n ≤ mostCoefficients) ⌝ }
     ensures { λ r. ⌜ r ≡ scale * «right_tolerance» + total n (λ j. getD (now (tolerances .entry)) (from + j) 0 * natAbs (getD (now (trial .entry)) j (pos 0))) ⌝ }
 {
     let mut t: u64 = 0;
@@ -82,12 +85,12 @@ fn row_reach<'a>(
 pub fn fill_residuals<'a>(
     n: usize,
     scale: u16,
-    coefficients: &'a [i16; 64],
-    right_sides: &'a [i32; 8],
-    trial: &'a [i32; 8],
-    residuals: &mut [i64; 8],
+    coefficients: &'a [i16; MOST_COEFFICIENTS],
+    right_sides: &'a [i32; MOST_TANKS],
+    trial: &'a [i32; MOST_TANKS],
+    residuals: &mut [i64; MOST_TANKS],
 )
-    requires { ⌜ (n ≤ 8) × Cleared n (pos 0) (now residuals) ⌝ }
+    requires { ⌜ (n ≤ mostTanks) × Cleared n (pos 0) (now residuals) ⌝ }
     ensures { λ r. ⌜ now (residuals .exit) ≡ residualsOf (system n (now (coefficients .entry)) [] (now («right_sides» .entry)) []) (trialOf n scale (now (trial .entry))) ⌝ }
 {
     for i in 0..n {
@@ -99,12 +102,12 @@ pub fn fill_residuals<'a>(
 pub fn fill_reaches<'a>(
     n: usize,
     scale: u16,
-    tolerances: &'a [u16; 64],
-    right_tolerances: &'a [u32; 8],
-    trial: &'a [i32; 8],
-    reaches: &mut [u64; 8],
+    tolerances: &'a [u16; MOST_COEFFICIENTS],
+    right_tolerances: &'a [u32; MOST_TANKS],
+    trial: &'a [i32; MOST_TANKS],
+    reaches: &mut [u64; MOST_TANKS],
 )
-    requires { ⌜ (n ≤ 8) × Cleared n 0 (now reaches) ⌝ }
+    requires { ⌜ (n ≤ mostTanks) × Cleared n 0 (now reaches) ⌝ }
     ensures { λ r. ⌜ now (reaches .exit) ≡ reachesOf (system n [] (now (tolerances .entry)) [] (now («right_tolerances» .entry))) (trialOf n scale (now (trial .entry))) ⌝ }
 {
     for i in 0..n {
@@ -113,8 +116,12 @@ pub fn fill_reaches<'a>(
 }
 
 // The first unmet row, counted from 1, or 0.
-pub fn first_beyond<'a>(n: usize, residuals: &'a [i64; 8], reaches: &'a [u64; 8]) -> usize
-    requires { ⌜ n ≤ 8 ⌝ }
+pub fn first_beyond<'a>(
+    n: usize,
+    residuals: &'a [i64; MOST_TANKS],
+    reaches: &'a [u64; MOST_TANKS],
+) -> usize
+    requires { ⌜ n ≤ mostTanks ⌝ }
     ensures { λ r. ⌜ r ≡ first-not (λ i. within (getD (now (residuals .entry)) i (pos 0)) (getD (now (reaches .entry)) i 0)) n ⌝ }
 {
     let mut i = 0;
@@ -146,8 +153,12 @@ fn exceeds(r: i64, t: u64, s: i64, u: u64) -> bool
 }
 
 // The place, from 0, of the first row that has no factor, or of the first with the greatest.
-fn greatest_factor<'a>(n: usize, residuals: &'a [i64; 8], reaches: &'a [u64; 8]) -> usize
-    requires { ⌜ n ≤ 8 ⌝ }
+fn greatest_factor<'a>(
+    n: usize,
+    residuals: &'a [i64; MOST_TANKS],
+    reaches: &'a [u64; MOST_TANKS],
+) -> usize
+    requires { ⌜ n ≤ mostTanks ⌝ }
     ensures { λ r. ⌜ r ≡ first-greatest (λ i. factor (getD (now (residuals .entry)) i (pos 0)) (getD (now (reaches .entry)) i 0)) n ⌝ }
 {
     let mut best = 0;
@@ -166,13 +177,18 @@ pub struct Standing {
     // the first unmet row, or 0 where every row is met
     pub unmet: usize,
     // residual and reach of each row, 0 past the last row
-    pub residuals: [i64; 8],
-    pub reaches: [u64; 8],
+    pub residuals: [i64; MOST_TANKS],
+    pub reaches: [u64; MOST_TANKS],
 }
 
 // D b of every row, in place: the residuals of the zero trial; 0 past the last.
-pub fn fill_scaled_sides(n: usize, scale: u16, right_sides: &[i32; 8], residuals: &mut [i64; 8])
-    requires { ⌜ (n ≤ 8) × Cleared n (pos 0) (now residuals) ⌝ }
+pub fn fill_scaled_sides(
+    n: usize,
+    scale: u16,
+    right_sides: &[i32; MOST_TANKS],
+    residuals: &mut [i64; MOST_TANKS],
+)
+    requires { ⌜ (n ≤ mostTanks) × Cleared n (pos 0) (now residuals) ⌝ }
     ensures { λ r. ⌜ now (residuals .exit) ≡ scaled-sides n scale (now («right_sides» .entry)) ⌝ }
 {
     for i in 0..n {
@@ -184,10 +200,10 @@ pub fn fill_scaled_sides(n: usize, scale: u16, right_sides: &[i32; 8], residuals
 pub fn fill_scaled_tolerances(
     n: usize,
     scale: u16,
-    right_tolerances: &[u32; 8],
-    reaches: &mut [u64; 8],
+    right_tolerances: &[u32; MOST_TANKS],
+    reaches: &mut [u64; MOST_TANKS],
 )
-    requires { ⌜ (n ≤ 8) × Cleared n 0 (now reaches) ⌝ }
+    requires { ⌜ (n ≤ mostTanks) × Cleared n 0 (now reaches) ⌝ }
     ensures { λ r. ⌜ now (reaches .exit) ≡ scaled-tolerances n scale (now («right_tolerances» .entry)) ⌝ }
 {
     for i in 0..n {
@@ -198,8 +214,8 @@ pub fn fill_scaled_tolerances(
 // What is said of a trial. Rows are counted from 1.
 pub struct Judgement {
     // residual and reach of each row, 0 past the last row
-    pub residuals: [i64; 8],
-    pub reaches: [u64; 8],
+    pub residuals: [i64; MOST_TANKS],
+    pub reaches: [u64; MOST_TANKS],
     // the first row that is not met, or 0, and the row that decides
     pub unmet: usize,
     pub decides: usize,
@@ -210,7 +226,7 @@ pub struct Judgement {
 
 // The judgement of n rows, from what a trial leaves of them.
 pub fn conclude(n: usize, standing: Standing) -> Judgement
-    requires { ⌜ n ≤ 8 ⌝ }
+    requires { ⌜ n ≤ mostTanks ⌝ }
     ensures { λ r. ⌜ r ≡ concluded n standing ⌝ }
 {
     let at = greatest_factor(n, &standing.residuals, &standing.reaches);
@@ -231,13 +247,13 @@ pub fn conclude(n: usize, standing: Standing) -> Judgement
 pub fn judge<'a>(
     n: usize,
     scale: u16,
-    coefficients: &'a [i16; 64],
-    tolerances: &'a [u16; 64],
-    right_sides: &'a [i32; 8],
-    right_tolerances: &'a [u32; 8],
-    trial: &'a [i32; 8],
+    coefficients: &'a [i16; MOST_COEFFICIENTS],
+    tolerances: &'a [u16; MOST_COEFFICIENTS],
+    right_sides: &'a [i32; MOST_TANKS],
+    right_tolerances: &'a [u32; MOST_TANKS],
+    trial: &'a [i32; MOST_TANKS],
 ) -> Judgement
-    requires { ⌜ n ≤ 8 ⌝ }
+    requires { ⌜ n ≤ mostTanks ⌝ }
     ensures { λ r. ⌜ r ≡ judgement (system n (now (coefficients .entry)) (now (tolerances .entry)) (now («right_sides» .entry)) (now («right_tolerances» .entry))) (trialOf n scale (now (trial .entry))) ⌝ }
 {
     let mut judgement = Judgement {
@@ -245,8 +261,8 @@ pub fn judge<'a>(
         unmet: 0,
         none: false,
         decides: 0,
-        residuals: [0i64; 8],
-        reaches: [0u64; 8],
+        residuals: [0i64; MOST_TANKS],
+        reaches: [0u64; MOST_TANKS],
     };
     fill_residuals(
         n,

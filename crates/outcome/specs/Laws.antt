@@ -44,21 +44,19 @@ pub first-accepted : (s t : Status) → first s t ≡ Accepted → (s ≡ Accept
 first-accepted Accepted t e = (refl, e)
 first-accepted (Refused r) t e = not-both (Refused r) r refl e
 
--- what a check that refused, or passed, makes of the first of two
-pub first-stops : (s t : Status) (r : Refusal) → s ≡ Refused r → s ≡ first s t
-first-stops Accepted t r e = not-both Accepted r e refl
-first-stops (Refused q) t r e = refl
-
-pub first-goes-on : (s t : Status) → s ≡ Accepted → t ≡ first s t
-first-goes-on Accepted t e = refl
-first-goes-on (Refused q) t e = not-both (Refused q) q refl e
-
--- the same where x is what the first of the two gave, and the second is a test
-pub stops : {x s : Status} {r : Refusal} (t : Status) → x ≡ s → x ≡ Refused r → x ≡ first s t
-stops t e g = e ∙ first-stops _ t _ (sym e ∙ g)
-
-pub goes-on : {x s : Status} {b c : Bool} (r : Refusal) → x ≡ s → x ≡ Accepted → b ≡ c → check c r ≡ first s (check b r)
-goes-on r e g h = sym (ap (λ (b : Bool). check b r) h) ∙ first-goes-on _ _ (sym e ∙ g)
+pub check-then : (b : Bool) (r : Refusal) (t : Status) → first (check b r) t ≡ Accepted → (b ≡ true) × (t ≡ Accepted)
+check-then b r t e = let w = first-accepted (check b r) t e in (check-accepted b r (w .0), w .1)
 
 pub first-check : (s : Status) (b : Bool) (r : Refusal) → first s (check b r) ≡ Accepted → (s ≡ Accepted) × (b ≡ true)
 first-check s b r e = let w = first-accepted s (check b r) e in (w .0, check-accepted b r (w .1))
+
+-- what a check that passed makes of the first of two
+pub first-goes-on : (s t : Status) → s ≡ Accepted → t ≡ first s t
+first-goes-on s t e = rw e
+
+-- where x is what the first of the two gave: it refused, or it passed and the second is a test
+pub stops : {x s : Status} {r : Refusal} (t : Status) → x ≡ s → x ≡ Refused r → x ≡ first s t
+stops t e g = rw (← e, g)
+
+pub goes-on : {x s : Status} {b c : Bool} (r : Refusal) → x ≡ s → x ≡ Accepted → b ≡ c → check c r ≡ first s (check b r)
+goes-on r e g h = rw (← e, g, h)

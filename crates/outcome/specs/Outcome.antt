@@ -36,7 +36,7 @@ refusals =
     ∷ OutsideRange
     ∷ []
 
--- the refusal that has a number from 1 on; a number that none has goes to the last
+-- the refusal that has a number; of those that none has, 0 goes to the first and the others to the last
 abbrev pub refusalOf : ℕ → Refusal
 refusalOf k = getD refusals (k - 1) OutsideRange
 

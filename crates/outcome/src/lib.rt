@@ -1,6 +1,6 @@
 // What a call answers: a count or a refusal, and the number that document 01 gives each refusal.
 ghost use mathlib.Core.Path.{_≡_};
-ghost use Rattle.outcome.specs.Outcome.{numberOf};
+ghost use Rattle.outcome.specs.Outcome.{numberOf, check as checked};
 
 // Document 01, "Refused, in this order".
 pub enum Refusal {
@@ -41,5 +41,16 @@ pub fn number(refusal: Refusal) -> u8
         Refusal::TrailingBytes => 7,
         Refusal::ZeroPivot => 8,
         Refusal::OutsideRange => 9,
+    }
+}
+
+// The answer of a check by one test: the refusal where it fails.
+pub fn check(passed: bool, refusal: Refusal) -> Status
+    ensures { λ r. ⌜ r ≡ checked passed refusal ⌝ }
+{
+    if passed {
+        Status::Accepted
+    } else {
+        Status::Refused(refusal)
     }
 }

@@ -7,6 +7,7 @@ use lib.ListN.{length, getD, length-append}
 use lib.IntN.{ℤ, pos}
 use mir.Syntax.{w32, w64}
 use mir.Val.{ofZ}
+use Rattle.limits.specs.Limits.{mostTanks}
 use Rattle.bigendian.specs.NumberLaws.{length-bytes}
 use Rattle.bigendian.specs.Number.{bytes}
 use Rattle.buffer.specs.Buffer.{run}
@@ -63,5 +64,5 @@ module _ (n rounds : ℕ) (Y : List ℤ) (j : Judgement) where
   length-record =
       length-append (judgedFields n rounds Y j) endField ∙ omega (arith, length-judged, length-field endTag [])
 
-pub longest-record : (n : ℕ) → n ≤ 8 → recordLength n ≤ longestRecord
+pub longest-record : (n : ℕ) → n ≤ mostTanks → recordLength n ≤ longestRecord
 longest-record n h = omega arith

@@ -5,10 +5,12 @@ use mathlib.Core.List.{List, [], _∷_, _++_}
 use Prim.Native.Nat.{ℕ, _+_, _*_, _≤_, _<_}
 use lib.ListN.{getD}
 use lib.IntN.{ℤ, pos}
-use mir.Syntax.{w32, w64}
+use mir.Syntax.{w64}
 use mir.Val.{ofZ}
+use Rattle.limits.specs.Limits.{mostTanks}
 use Rattle.bigendian.specs.Number.{bytes}
 use Rattle.buffer.specs.Buffer.{onto, run}
+use Rattle.figures.specs.Figures.{i32, figureBytes}
 use Rattle.fields.specs.Field.{headerSize, field, endField}
 use Rattle.judge.specs.declared.Judgement.{Judgement}
 
@@ -30,7 +32,7 @@ abbrev pub verdictLength : ℕ
 verdictLength = 3
 
 abbrev pub answerLength : ℕ → ℕ
-answerLength n = 4 * n
+answerLength n = i32 .width * n
 
 abbrev pub pairSize : ℕ
 pairSize = 16
@@ -86,14 +88,14 @@ pair R T = bytes 8 (ofZ w64 R) ++ bytes 8 T
 abbrev pub verdictField : Bool → ℕ → ℕ → List ℕ
 verdictField met unmet rounds = field verdictTag (flag met ∷ unmet ∷ rounds ∷ [])
 
--- "the answer, 4 bytes each": the first n figures of Y
+-- "the answer, 4 bytes each": tank j's, from 0, and the first n figures of Y
 abbrev pub figureAt : List ℤ → ℕ → List ℕ
-figureAt Y j = bytes 4 (ofZ w32 (getD Y j (pos 0)))
+figureAt Y j = figureBytes i32 (getD Y j (pos 0))
 
 abbrev pub answerField : ℕ → List ℤ → List ℕ
 answerField n Y = field answerTag (run n (figureAt Y))
 
--- "Each row's pair is written into that row's sixteen bytes"
+-- "Each row's pair is written into that row's sixteen bytes": row i's, from 0
 abbrev pub pairAt : List ℤ → List ℕ → ℕ → List ℕ
 pairAt R T i = pair (getD R i (pos 0)) (getD T i 0)
 
@@ -124,7 +126,7 @@ longestRecord = 180
 
 -- what the writer of a record asks: at most 8 rows, rows and rounds of a byte each, and room
 pub record Holds (n rounds : ℕ) (j : Judgement) (room : ℕ) : Type 0 where
-  pub rows : n ≤ 8
+  pub rows : n ≤ mostTanks
   pub rounds-byte : rounds < 256
   pub unmet-byte : j .unmet < 256
   pub decides-byte : j .decides < 256

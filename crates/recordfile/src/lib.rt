@@ -2,11 +2,13 @@
 ghost use mathlib.Core.Path.{_≡_};
 ghost use Prim.Native.Nat.{_+_, _≤_};
 ghost use lib.ListN.{length};
+ghost use Rattle.limits.specs.Limits.{mostTanks};
 ghost use Rattle.buffer.specs.Buffer.{onto, run};
 ghost use Rattle.fields.specs.Field.{headerSize};
 ghost use Rattle.recordfile.specs.Layout.{answerLength, rowsLength, factorLength, answerAt, rowsAt, factorAt, endAt, flag as flagOf, pair, pairAt, pairSize, verdictField, answerField, rowsField, factorField, judgedFields, Holds, Written};
 use fields::HEADER_SIZE;
 use judge::Judgement;
+use limits::MOST_TANKS;
 
 // Document 01, "Layout of case and record".
 pub const VERDICT_TAG: u8 = 16;
@@ -30,10 +32,10 @@ const NONE_AT: usize = HEADER_SIZE;
 
 const DECIDES_AT: usize = HEADER_SIZE + 1;
 
-// How long a row's pair is, and where its reach stands in it.
-const PAIR_SIZE: usize = 16;
+// Where a row's reach stands in its pair, and how long the pair is.
+const REACH_AT: usize = bigendian::SIZE_64;
 
-const REACH_AT: usize = 8;
+const PAIR_SIZE: usize = REACH_AT + bigendian::SIZE_64;
 
 // Lengths of values.
 const VERDICT_LENGTH: u16 = 3;
@@ -41,14 +43,14 @@ const VERDICT_LENGTH: u16 = 3;
 const FACTOR_LENGTH: u16 = 2;
 
 fn answer_length(n: usize) -> usize
-    requires { ⌜ n ≤ 8 ⌝ }
+    requires { ⌜ n ≤ mostTanks ⌝ }
     ensures { λ r. ⌜ r ≡ answerLength n ⌝ }
 {
-    4 * n
+    bigendian::SIZE_32 * n
 }
 
 fn rows_length(n: usize) -> usize
-    requires { ⌜ n ≤ 8 ⌝ }
+    requires { ⌜ n ≤ mostTanks ⌝ }
     ensures { λ r. ⌜ r ≡ rowsLength n ⌝ }
 {
     PAIR_SIZE * n
@@ -58,21 +60,21 @@ fn rows_length(n: usize) -> usize
 const ANSWER_AT: usize = HEADER_SIZE + VERDICT_LENGTH as usize;
 
 fn rows_at(n: usize) -> usize
-    requires { ⌜ n ≤ 8 ⌝ }
+    requires { ⌜ n ≤ mostTanks ⌝ }
     ensures { λ r. ⌜ r ≡ rowsAt n ⌝ }
 {
     ANSWER_AT + HEADER_SIZE + answer_length(n)
 }
 
 fn factor_at(n: usize) -> usize
-    requires { ⌜ n ≤ 8 ⌝ }
+    requires { ⌜ n ≤ mostTanks ⌝ }
     ensures { λ r. ⌜ r ≡ factorAt n ⌝ }
 {
     rows_at(n) + HEADER_SIZE + rows_length(n)
 }
 
 fn end_at(n: usize) -> usize
-    requires { ⌜ n ≤ 8 ⌝ }
+    requires { ⌜ n ≤ mostTanks ⌝ }
     ensures { λ r. ⌜ r ≡ endAt n ⌝ }
 {
     factor_at(n) + HEADER_SIZE + FACTOR_LENGTH as usize
@@ -106,8 +108,13 @@ fn write_pair(out: &mut [u8], residual: i64, reach: u64)
 }
 
 // The pairs of n rows, each lent its part of out.
-fn write_pairs<'a>(out: &mut [u8], n: usize, residuals: &'a [i64; 8], reaches: &'a [u64; 8])
-    requires { ⌜ (n ≤ 8) × (rowsLength n ≤ length (now out)) ⌝ }
+fn write_pairs<'a>(
+    out: &mut [u8],
+    n: usize,
+    residuals: &'a [i64; MOST_TANKS],
+    reaches: &'a [u64; MOST_TANKS],
+)
+    requires { ⌜ (n ≤ mostTanks) × (rowsLength n ≤ length (now out)) ⌝ }
     ensures { λ _. ⌜ now (out .exit) ≡ onto (run n (pairAt (now (residuals .entry)) (now (reaches .entry)))) (now (out .entry)) ⌝ }
 {
     let mut i = 0;
@@ -132,7 +139,7 @@ fn write_factor(out: &mut [u8], none: bool, decides: u8)
 
 // Field 11, over the front of out: the first n figures of the answer.
 fn write_answer(out: &mut [u8], n: usize, answer: &[i32])
-    requires { ⌜ (n ≤ 8) × ((n ≤ length (now answer)) × (headerSize + answerLength n ≤ length (now out))) ⌝ }
+    requires { ⌜ (n ≤ mostTanks) × ((n ≤ length (now answer)) × (headerSize + answerLength n ≤ length (now out))) ⌝ }
     ensures { λ _. ⌜ now (out .exit) ≡ onto (answerField n (now (answer .entry))) (now (out .entry)) ⌝ }
 {
     fields::write_header(out, ANSWER_TAG, answer_length(n) as u16);
@@ -140,8 +147,13 @@ fn write_answer(out: &mut [u8], n: usize, answer: &[i32])
 }
 
 // Field 12, over the front of out.
-fn write_rows<'a>(out: &mut [u8], n: usize, residuals: &'a [i64; 8], reaches: &'a [u64; 8])
-    requires { ⌜ (n ≤ 8) × (headerSize + rowsLength n ≤ length (now out)) ⌝ }
+fn write_rows<'a>(
+    out: &mut [u8],
+    n: usize,
+    residuals: &'a [i64; MOST_TANKS],
+    reaches: &'a [u64; MOST_TANKS],
+)
+    requires { ⌜ (n ≤ mostTanks) × (headerSize + rowsLength n ≤ length (now out)) ⌝ }
     ensures { λ _. ⌜ now (out .exit) ≡ onto (rowsField n (now (residuals .entry)) (now (reaches .entry))) (now (out .entry)) ⌝ }
 {
     fields::write_header(out, ROWS_TAG, rows_length(n) as u16);
@@ -149,7 +161,13 @@ fn write_rows<'a>(out: &mut [u8], n: usize, residuals: &'a [i64; 8], reaches: &'
 }
 
 // Fields 10 to 13 of an answer over the front of out: its first n figures, the rounds used, and its judgement.
-fn write_judged(out: &mut [u8], n: usize, rounds: usize, answer: &[i32; 8], judgement: Judgement)
+fn write_judged(
+    out: &mut [u8],
+    n: usize,
+    rounds: usize,
+    answer: &[i32; MOST_TANKS],
+    judgement: Judgement,
+)
     requires { ⌜ Holds n rounds judgement (length (now out)) ⌝ }
     ensures { λ _. ⌜ now (out .exit) ≡ onto (judgedFields n rounds (now (answer .entry)) judgement) (now (out .entry)) ⌝ }
 {
@@ -168,7 +186,7 @@ pub fn write_record(
     out: &mut [u8],
     n: usize,
     rounds: usize,
-    answer: &[i32; 8],
+    answer: &[i32; MOST_TANKS],
     judgement: Judgement,
 ) -> usize
     requires { ⌜ Holds n rounds judgement (length (now out)) ⌝ }

@@ -6,6 +6,7 @@ use Prim.Native.Nat.{ℕ, _+_, _*_}
 use lib.Dec.{leb}
 use lib.ListN.{length, getD}
 use lib.IntN.{ℤ, pos}
+use Rattle.limits.specs.Limits.{mostTanks, mostExponent}
 use Rattle.decimal.specs.Buffer.{ascii, joined}
 use Rattle.buffer.specs.Buffer.{onto, run}
 use Rattle.decimal.specs.Decimal.{digits, signed, fixed-point}
@@ -94,13 +95,13 @@ abbrev pub factor-room : ℕ
 factor-room = 37
 
 abbrev pub text-room : ℕ
-text-room = verdict-room + (8 * answer-room + (8 * row-room + factor-room))
+text-room = verdict-room + (mostTanks * answer-room + (mostTanks * row-room + factor-room))
 
 abbrev pub refusal-room : ℕ
 refusal-room = 12
 
 unfoldable pub printed : ℕ → Report → List ℕ
-printed room r = cond (leb (r .n) 8 && (leb (r .exponent) 3 && leb text-room room)) (text r) []
+printed room r = cond (leb (r .n) mostTanks && (leb (r .exponent) mostExponent && leb text-room room)) (text r) []
 
 unfoldable pub printed-refusal : ℕ → ℕ → List ℕ
 printed-refusal room number = cond (leb refusal-room room) (refusal-text number) []

@@ -10,6 +10,7 @@ use borrow.Author.Tests.{le-leb, lt-leb}
 use lib.Dec.{lit<, lit≤}
 use lib.ListN.{length, length-append}
 use lib.IntN.{ℤ, natAbs}
+use Rattle.limits.specs.Limits.{mostTanks, mostExponent}
 use Rattle.buffer.specs.RunLaws.{run-within}
 use Rattle.decimal.specs.Buffer.{ascii, joined}
 use Rattle.decimal.specs.Decimal.{digits, signed, fixed-point}
@@ -54,7 +55,7 @@ length-verdict-line met row rounds h k =
     (some (length-labelled 19 (ascii " rounds ") rounds k)
     (some (omega arith) none)))
 
-pub length-answer-line : (e tank : ℕ) (figure : ℤ) → e < 4 → tank < 10 → natAbs figure < 10 ^ 10 → length (answer-line e tank figure) ≤ answer-room
+pub length-answer-line : (e tank : ℕ) (figure : ℤ) → e ≤ mostExponent → tank < 10 → natAbs figure < 10 ^ 10 → length (answer-line e tank figure) ≤ answer-room
 unfolding answer-line
 length-answer-line e tank figure g h k =
     length-joined (labelled (ascii "answer ") tank ∷ ascii " " ∷ fixed-point e figure ∷ line-feed ∷ []) (8 ∷ 1 ∷ 15 ∷ 1 ∷ [])
@@ -91,8 +92,8 @@ length-refusal number h =
 
 -- what the types of a case's and a judgement's figures admit
 pub record Within (r : Report) : Type 0 where
-  pub tanks : r .n ≤ 8
-  pub exponent : r .exponent ≤ 3
+  pub tanks : r .n ≤ mostTanks
+  pub exponent : r .exponent ≤ mostExponent
   pub rounds : r .rounds < 2 ^ 64
   pub unmet : r .found .unmet < 2 ^ 64
   pub decides : r .found .decides < 2 ^ 64
@@ -112,7 +113,7 @@ length-text r w =
     run-within row-room (λ i. row-line (i + 1) (r .found .R i) (r .found .T i)) (r .n)
     (λ i h. length-row-line (i + 1) (r .found .R i) (r .found .T i) (omega (arith, w .tanks)) (lt-of-le-of-lt (w .residual i h) (lit< tt)) (lt-of-lt-of-le (w .reach i h) (lit≤ tt))) in
     length-joined (verdict-line (r .found .met) (r .found .unmet) (r .rounds) ∷ A ∷ R ∷ factor-line (r .found .none) (r .found .decides) ∷ [])
-    (verdict-room ∷ 8 * answer-room ∷ 8 * row-room ∷ factor-room ∷ [])
+    (verdict-room ∷ mostTanks * answer-room ∷ mostTanks * row-room ∷ factor-room ∷ [])
     (some (length-verdict-line (r .found .met) (r .found .unmet) (r .rounds) (lt-of-lt-of-le (w .unmet) (lit≤ tt)) (lt-of-lt-of-le (w .rounds) (lit≤ tt)))
     (some (omega (arith, w .tanks))
     (some (omega (arith, w .tanks))
@@ -120,25 +121,25 @@ length-text r w =
 
 -- ---- what is printed
 
-pub printed-whole : (room : ℕ) (r : Report) → r .n ≤ 8 → r .exponent ≤ 3 → text-room ≤ room → printed room r ≡ text r
+pub printed-whole : (room : ℕ) (r : Report) → r .n ≤ mostTanks → r .exponent ≤ mostExponent → text-room ≤ room → printed room r ≡ text r
 unfolding printed
-printed-whole room r h k l = rw (le-leb (r .n) 8 h, le-leb (r .exponent) 3 k, le-leb text-room room l)
+printed-whole room r h k l = rw (le-leb (r .n) mostTanks h, le-leb (r .exponent) mostExponent k, le-leb text-room room l)
 
 pub printed-refusal-whole : (room number : ℕ) → refusal-room ≤ room → printed-refusal room number ≡ refusal-text number
 unfolding printed-refusal
 printed-refusal-whole room number h = rw (le-leb refusal-room room h)
 
-pub printed-many-tanks : (room : ℕ) (r : Report) → 8 < r .n → printed room r ≡ []
+pub printed-many-tanks : (room : ℕ) (r : Report) → mostTanks < r .n → printed room r ≡ []
 unfolding printed
-printed-many-tanks room r h = rw (lt-leb (r .n) 8 h)
+printed-many-tanks room r h = rw (lt-leb (r .n) mostTanks h)
 
-pub printed-large-exponent : (room : ℕ) (r : Report) → r .n ≤ 8 → 3 < r .exponent → printed room r ≡ []
+pub printed-large-exponent : (room : ℕ) (r : Report) → r .n ≤ mostTanks → mostExponent < r .exponent → printed room r ≡ []
 unfolding printed
-printed-large-exponent room r h k = rw (le-leb (r .n) 8 h, lt-leb (r .exponent) 3 k)
+printed-large-exponent room r h k = rw (le-leb (r .n) mostTanks h, lt-leb (r .exponent) mostExponent k)
 
-pub printed-short-buffer : (room : ℕ) (r : Report) → r .n ≤ 8 → r .exponent ≤ 3 → room < text-room → printed room r ≡ []
+pub printed-short-buffer : (room : ℕ) (r : Report) → r .n ≤ mostTanks → r .exponent ≤ mostExponent → room < text-room → printed room r ≡ []
 unfolding printed
-printed-short-buffer room r h k l = rw (le-leb (r .n) 8 h, le-leb (r .exponent) 3 k, lt-leb text-room room l)
+printed-short-buffer room r h k l = rw (le-leb (r .n) mostTanks h, le-leb (r .exponent) mostExponent k, lt-leb text-room room l)
 
 pub printed-refusal-short-buffer : (room number : ℕ) → room < refusal-room → printed-refusal room number ≡ []
 unfolding printed-refusal

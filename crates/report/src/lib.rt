@@ -4,9 +4,12 @@ use decimal::write_fixed_point;
 use decimal::write_signed;
 use decimal::write_unsigned;
 use judge::Judgement;
+use limits::MOST_EXPONENT;
+use limits::MOST_TANKS;
 ghost use Prim.Native.Nat.{_+_, _*_, _≤_, _<_};
 ghost use lib.ListN.{length, getD};
 ghost use lib.IntN.{pos};
+ghost use Rattle.limits.specs.Limits.{mostTanks, mostExponent};
 ghost use Rattle.decimal.specs.Buffer.{Room, Wrote};
 ghost use Rattle.report.specs.Text.{report, labelled, «verdict-word», «verdict-line», «answer-line», «row-line», «factor-word», «factor-line», «answer-lines», «row-lines», «verdict-room», «answer-room», «row-room», «factor-room», «text-room», text, printed, «printed-refusal», Printed};
 ghost use Rattle.report.specs.Lines.{WroteWithin};
@@ -48,7 +51,7 @@ fn write_verdict_line(met: bool, row: u64, rounds: u64, at: usize, out: &mut [u8
 
 // A tank's answer.
 fn write_answer_line(e: usize, tank: u64, figure: i32, at: usize, out: &mut [u8]) -> usize
-    requires { ⌜ (e < 4) × ((tank < 10) × (at + answer-room ≤ length (now out))) ⌝ }
+    requires { ⌜ (e ≤ mostExponent) × ((tank < 10) × (at + answer-room ≤ length (now out))) ⌝ }
     ensures { λ r. ⌜ WroteWithin answer-room (answer-line e tank figure) at (now (out .entry)) r (now (out .exit)) ⌝ }
 {
     let after_tank = write_labelled(b"answer ", tank, at, out);
@@ -91,12 +94,12 @@ fn write_factor_line(none: bool, row: u64, at: usize, out: &mut [u8]) -> usize
 // Every row's residual and reach.
 fn write_rows<'a>(
     n: usize,
-    residuals: &'a [i64; 8],
-    reaches: &'a [u64; 8],
+    residuals: &'a [i64; MOST_TANKS],
+    reaches: &'a [u64; MOST_TANKS],
     at: usize,
     out: &mut [u8],
 ) -> usize
-    requires { ⌜ (n ≤ 8) × (at + n * row-room ≤ length (now out)) ⌝ }
+    requires { ⌜ (n ≤ mostTanks) × (at + n * row-room ≤ length (now out)) ⌝ }
     ensures { λ r. ⌜ WroteWithin (n * row-room) (row-lines n (λ i. getD (now (residuals .entry)) i (pos 0)) (λ i. getD (now (reaches .entry)) i 0)) at (now (out .entry)) r (now (out .exit)) ⌝ }
 {
     let mut i = 0;
@@ -109,8 +112,8 @@ fn write_rows<'a>(
 }
 
 // Every tank's answer.
-fn write_answers(n: usize, e: usize, answer: &[i32; 8], at: usize, out: &mut [u8]) -> usize
-    requires { ⌜ (n ≤ 8) × ((e < 4) × (at + n * answer-room ≤ length (now out))) ⌝ }
+fn write_answers(n: usize, e: usize, answer: &[i32; MOST_TANKS], at: usize, out: &mut [u8]) -> usize
+    requires { ⌜ (n ≤ mostTanks) × ((e ≤ mostExponent) × (at + n * answer-room ≤ length (now out))) ⌝ }
     ensures { λ r. ⌜ WroteWithin (n * answer-room) (answer-lines n e (λ j. getD (now (answer .entry)) j (pos 0))) at (now (out .entry)) r (now (out .exit)) ⌝ }
 {
     let mut j = 0;
@@ -127,11 +130,11 @@ fn write_text(
     n: usize,
     e: usize,
     rounds: usize,
-    answer: &[i32; 8],
+    answer: &[i32; MOST_TANKS],
     judgement: Judgement,
     out: &mut [u8],
 ) -> usize
-    requires { ⌜ (n ≤ 8) × ((e < 4) × (text-room ≤ length (now out))) ⌝ }
+    requires { ⌜ (n ≤ mostTanks) × ((e ≤ mostExponent) × (text-room ≤ length (now out))) ⌝ }
     ensures { λ r. ⌜ Wrote (text (report n e rounds (now (answer .entry)) judgement)) 0 (now (out .entry)) r (now (out .exit)) ⌝ }
 {
     let residuals = judgement.residuals;
@@ -154,16 +157,16 @@ pub fn render(
     n: usize,
     e: usize,
     rounds: usize,
-    answer: &[i32; 8],
+    answer: &[i32; MOST_TANKS],
     judgement: Judgement,
     out: &mut [u8],
 ) -> usize
     ensures { λ r. ⌜ Printed (printed (length (now (out .entry))) (report n e rounds (now (answer .entry)) judgement)) (now (out .entry)) r (now (out .exit)) ⌝ }
 {
-    if 8 < n {
+    if MOST_TANKS < n {
         return 0;
     }
-    if 3 < e {
+    if MOST_EXPONENT < e {
         return 0;
     }
     if out.len() < TEXT_ROOM {

@@ -1,134 +1,117 @@
 -- The rows read so far: the law of reading loops, and their figures over the lists' fronts.
 -- Assumes nothing.
 use mathlib.Core.Path.{_≡_, refl, sym, ap, _∙_}
-use mathlib.Core.List.{List, [], _∷_, _++_, append-nil}
+use mathlib.Core.List.{List, [], _∷_, _++_}
 use Prim.Native.Nat.{ℕ, _+_, _*_, _-_, _≤_, _<_}
 use native.Mathlib.Omega.{arith}
-use native.Mathlib.Nat.{zero-mul, suc-mul}
+use native.Mathlib.Nat.{zero-mul, suc-mul, mul-le-mul-right}
 use lib.ListN.{length, drop, length-append}
-use lib.IntN.{ℤ}
 use borrow.Rule.Slice.PartMut.{putMid}
 use Rattle.outcome.specs.declared.Refusal.{Refusal}
 use Rattle.outcome.specs.declared.Status.{Status}
 use Rattle.outcome.specs.declared.Status.the-variants.{Accepted, Refused}
 use Rattle.outcome.specs.Laws.{stops, first-goes-on, not-both}
-use Rattle.buffer.specs.Buffer.{onto, joined}
 use Rattle.buffer.specs.Laws.{filled, length-onto}
-use Rattle.buffer.specs.RunLaws.{joined-append}
 use Rattle.figures.specs.LoopLaws.{Reading, begun, stopped, turn, ended}
-use Rattle.casefile.specs.Layout.{rowSize, Row, rowMade, RowsRoom}
+use Rattle.limits.specs.Limits.{mostTanks}
+use Rattle.casefile.specs.Block.{Block, block, Counts, Room, RowsRoom, stacked, over, together}
+use Rattle.casefile.specs.Layout.{rowSize}
 use Rattle.casefile.specs.Decode.{rowAt, rowStatus, rowsStatus}
+use Rattle.casefile.specs.BlockLaws.{SoundBlock, counts, Rows, none, together-sound, together-more, rows-more, next-row}
 use Rattle.casefile.specs.RowLaws.{row-sound, row-room}
-use Rattle.casefile.specs.RowsLaws.{NextRow, next-row}
 use Rattle.row_reader.specs.Read.{RowRead, RowsRead}
 
--- one list: what stands over its front is a part of each row so far
-record Filled {X : Type 0} (f : Row → List X) (done : List Row) (from : ℕ) (xs₀ xs : List X) : Type 0 where
-  is : xs ≡ onto (joined f done) xs₀
-  count : length (joined f done) ≡ from
+pub record SameLengths (r s : Block) : Type 0 where
+  pub la : length (r .coefficients) ≡ length (s .coefficients)
+  pub lt : length (r .tolerances) ≡ length (s .tolerances)
+  pub lb : length (r .right-sides) ≡ length (s .right-sides)
+  pub lf : length (r .right-tolerances) ≡ length (s .right-tolerances)
 
--- one row more
-fill : {X : Type 0} (f : Row → List X) (done : List Row) (r : Row) (from k to : ℕ) (xs₀ xs ys : List X)
-    → Filled f done from xs₀ xs → length (f r) ≡ k → from + k ≡ to → ys ≡ f r → Filled f (done ++ (r ∷ [])) to xs₀ (putMid from (to - from) xs ys)
-fill f done r from k to xs₀ xs ys w e g h =
-    let j : joined f (done ++ (r ∷ [])) ≡ joined f done ++ f r = joined-append f done (r ∷ []) ∙ rw (append-nil (f r)) in
-    let m : length (f r) ≡ to - from = e ∙ omega arith in
-    record {
-      is = rw (j, h) (filled xs₀ xs (joined f done) (f r) from (to - from) (w .is) (w .count) m);
-      count = ap length j ∙ length-append (joined f done) (f r) ∙ omega (arith, w .count);
-    }
+-- figures over the fronts of lists that have room for them, and a row's figures behind them
+module _ {k m : ℕ} (d : Block) (c : Counts k m d) (lists₀ lists : Block) (e : lists ≡ over d lists₀) where
+  over-lengths : Room k m lists₀ → SameLengths lists lists₀
+  over-lengths h =
+      rw e
+      (record {
+        la = length-onto (d .coefficients) (lists₀ .coefficients) (omega (arith, c, h));
+        lt = length-onto (d .tolerances) (lists₀ .tolerances) (omega (arith, c, h));
+        lb = length-onto (d .right-sides) (lists₀ .right-sides) (omega (arith, c, h));
+        lf = length-onto (d .right-tolerances) (lists₀ .right-tolerances) (omega (arith, c, h));
+      })
 
-filled-length : {X : Type 0} (f : Row → List X) (done : List Row) (from : ℕ) (xs₀ xs : List X) → Filled f done from xs₀ xs → from ≤ length xs₀ → length xs ≡ length xs₀
-filled-length f done from xs₀ xs w h = ap length (w .is) ∙ length-onto (joined f done) xs₀ (omega (arith, w .count))
+  over-more : {n : ℕ} (r : Block) → Counts n 1 r
+      → block
+      (putMid k (k + n - k) (lists .coefficients) (r .coefficients))
+      (putMid k (k + n - k) (lists .tolerances) (r .tolerances))
+      (putMid m (m + 1 - m) (lists .right-sides) (r .right-sides))
+      (putMid m (m + 1 - m) (lists .right-tolerances) (r .right-tolerances))
+      ≡ over (stacked d r) lists₀
+  over-more {n} r h =
+      rw (
+        filled _ _ (d .coefficients) (r .coefficients) k (k + n - k) (ap (λ l. l .coefficients) e) (c .la) (omega (arith, h)),
+        filled _ _ (d .tolerances) (r .tolerances) k (k + n - k) (ap (λ l. l .tolerances) e) (c .lt) (omega (arith, h)),
+        filled _ _ (d .right-sides) (r .right-sides) m (m + 1 - m) (ap (λ l. l .right-sides) e) (c .lb) (omega (arith, h)),
+        filled _ _ (d .right-tolerances) (r .right-tolerances) m (m + 1 - m) (ap (λ l. l .right-tolerances) e) (c .lf) (omega (arith, h)),
+      )
 
-module _ (s : List ℕ) (at n : ℕ) (a₀ : List ℤ) (t₀ : List ℕ) (b₀ : List ℤ) (f₀ : List ℕ) where
-  pub record ReadingRows (a : List ℤ) (t : List ℕ) (b : List ℤ) (f : List ℕ) (i from p : ℕ) : Type 0 where
-    pub room : RowsRoom n a₀ t₀ b₀ f₀
-    pub here : p ≤ length s
+module _ (s : List ℕ) (at n : ℕ) (lists₀ : Block) where
+  pub record ReadingRows (lists : Block) (i from p : ℕ) : Type 0 where
+    pub room : RowsRoom n lists₀
     pub place : from ≡ i * n
-    pub la : length a ≡ length a₀
-    pub lt : length t ≡ length t₀
-    pub lb : length b ≡ length b₀
-    pub lf : length f ≡ length f₀
-    done : List Row
-    fa : Filled (λ r. r .coefficients) done from a₀ a
-    ft : Filled (λ r. r .tolerances) done from t₀ t
-    fb : Filled (λ r. r .right-side) done i b₀ b
-    ff : Filled (λ r. r .right-tolerance) done i f₀ f
+    done : List Block
+    sound : Rows n done
+    count : length done ≡ i
+    is : lists ≡ over (together done) lists₀
     pub read : Reading (rowSize n) (rowAt n) (rowsStatus n) n s at done i p
 
-  pub begun-rows : at ≤ length s → RowsRoom n a₀ t₀ b₀ f₀ → ReadingRows a₀ t₀ b₀ f₀ 0 0 at
-  begun-rows h r =
-      record {
-        room = r;
-        here = h;
-        place = sym (zero-mul n);
-        la = refl;
-        lt = refl;
-        lb = refl;
-        lf = refl;
-        done = [];
-        fa = record { is = refl; count = refl };
-        ft = record { is = refl; count = refl };
-        fb = record { is = refl; count = refl };
-        ff = record { is = refl; count = refl };
-        read = begun _ _ _ _ _ _;
-      }
+  pub begun-rows : RowsRoom n lists₀ → ReadingRows lists₀ 0 0 at
+  begun-rows r = record { room = r; place = sym (zero-mul n); done = []; sound = none; count = refl; is = refl; read = begun _ _ _ _ _ _ }
 
-  module _ {a : List ℤ} {t : List ℕ} {b : List ℤ} {f : List ℕ} {i from p : ℕ} (r : ReadingRows a t b f i from p) where
+  module _ {lists : Block} {i from p : ℕ} (r : ReadingRows lists i from p) where
+    counted : Counts from i (together (r .done))
+    counted = rw (r .count, ← (r .place)) at (counts (together-sound n (r .sound)))
+
+    pub lengths : SameLengths lists lists₀
+    lengths = over-lengths (together (r .done)) counted lists₀ lists (r .is) (omega (arith, r .room .room, r .place, mul-le-mul-right n (r .read .count)))
+
     -- the next row finds room
-    pub next : i < n → NextRow n i from a t b f
-    next h = next-row (omega (arith, r .room, r .la, r .lt, r .lb, r .lf)) (r .place) h
+    pub next : i < n → (n ≤ mostTanks) × Room (from + n) (i + 1) lists × SameLengths lists lists₀
+    next h = (r .room .small, omega (arith, next-row (r .room) (r .place) h, lengths), lengths)
 
-    pub stopped-rows : i < n → (x : Status) (q : Refusal) → x ≡ rowStatus n (drop p s) → x ≡ Refused q → (a' : List ℤ) (t' : List ℕ) (b' : List ℤ) (f' : List ℕ)
-        → RowsRead n (drop at s) x a₀ a' t₀ t' b₀ b' f₀ f'
+    pub stopped-rows : i < n → (x : Status) (q : Refusal) → x ≡ rowStatus n (drop p s) → x ≡ Refused q → (exit : Block) → RowsRead n (drop at s) lists₀ x exit
     unfolding rowsStatus
-    stopped-rows h x q e g a' t' b' f' =
-        record {
-          status = stopped _ _ _ _ _ _ (r .read) h (λ m. stops _ e g);
-          made = λ y. not-both x q g y;
-        }
+    stopped-rows h x q e g exit = record { status = stopped _ _ _ _ _ _ (r .read) h (λ m. stops _ e g); made = λ y. not-both x q g y }
 
     -- the next row is whole
     pub past : (x : Status) → x ≡ rowStatus n (drop p s) → x ≡ Accepted → p + rowSize n ≤ length s
     past x e g = row-room n s p (sym e ∙ g)
 
-    pub turn-rows : i < n → {size : ℕ} → size ≡ rowSize n → {x : Status} {ra : List ℤ} {rt : List ℕ} {rb : List ℤ} {rf : List ℕ} → RowRead n (drop p s) x ra rt rb rf → x ≡ Accepted
-        → ReadingRows (putMid from (from + n - from) a ra) (putMid from (from + n - from) t rt) (putMid i (i + 1 - i) b rb) (putMid i (i + 1 - i) f rf)
+    pub turn-rows : i < n → {size : ℕ} → size ≡ rowSize n → {x : Status} {row : Block} → RowRead n (drop p s) x row → x ≡ Accepted
+        → ReadingRows
+        (block
+        (putMid from (from + n - from) (lists .coefficients) (row .coefficients))
+        (putMid from (from + n - from) (lists .tolerances) (row .tolerances))
+        (putMid i (i + 1 - i) (lists .right-sides) (row .right-sides))
+        (putMid i (i + 1 - i) (lists .right-tolerances) (row .right-tolerances)))
         (i + 1) (from + n) (p + size)
     unfolding rowsStatus
-    turn-rows h e {x} {ra} {rt} {rb} {rf} w g =
+    turn-rows h e {x} {row} w g =
         let acc : rowStatus n (drop p s) ≡ Accepted = sym (w .status) ∙ g in
-        let row : Row = rowAt n (drop p s) in
-        let so = row-sound n (drop p s) acc in
-        let is : rowMade ra rt rb rf ≡ rowAt n (drop p s) = w .made g in
-        let N = next h in
-        let fa' = fill (λ r. r .coefficients) (r .done) row from n (from + n) a₀ a ra (r .fa) (so .coefficient-count) refl (ap (λ r. r .coefficients) is) in
-        let ft' = fill (λ r. r .tolerances) (r .done) row from n (from + n) t₀ t rt (r .ft) (so .tolerance-count) refl (ap (λ r. r .tolerances) is) in
-        let fb' = fill (λ r. r .right-side) (r .done) row i 1 (i + 1) b₀ b rb (r .fb) (so .right-count) refl (ap (λ r. r .right-side) is) in
-        let ff' = fill (λ r. r .right-tolerance) (r .done) row i 1 (i + 1) f₀ f rf (r .ff) (so .right-tolerance-count) refl (ap (λ r. r .right-tolerance) is) in
+        let made : row ≡ rowAt n (drop p s) = w .made g in
+        let so : SoundBlock n 1 row = rw made (row-sound n (drop p s) acc) in
         rw e
         (record {
           room = r .room;
-          here = past x (w .status) g;
           place = omega (arith, r .place, suc-mul i n);
-          la = filled-length (λ r. r .coefficients) (r .done ++ (row ∷ [])) (from + n) a₀ _ fa' (omega (arith, N, r .la));
-          lt = filled-length (λ r. r .tolerances) (r .done ++ (row ∷ [])) (from + n) t₀ _ ft' (omega (arith, N, r .lt));
-          lb = filled-length (λ r. r .right-side) (r .done ++ (row ∷ [])) (i + 1) b₀ _ fb' (omega (arith, N, r .lb));
-          lf = filled-length (λ r. r .right-tolerance) (r .done ++ (row ∷ [])) (i + 1) f₀ _ ff' (omega (arith, N, r .lf));
           done = r .done ++ (row ∷ []);
-          fa = fa';
-          ft = ft';
-          fb = fb';
-          ff = ff';
-          read = turn _ _ _ _ _ _ (r .read) h (λ m. first-goes-on (rowStatus n (drop p s)) _ acc);
+          sound = rows-more (r .sound) so;
+          count = length-append (r .done) (row ∷ []) ∙ omega (arith, r .count);
+          is = over-more (together (r .done)) counted lists₀ lists (r .is) row (counts so) ∙ rw (together-more (r .done) row);
+          read = rw made (turn _ _ _ _ _ _ (r .read) h (λ m. first-goes-on (rowStatus n (drop p s)) _ acc));
         })
 
-    pub ended-rows : n ≤ i → RowsRead n (drop at s) Accepted a₀ a t₀ t b₀ b f₀ f
+    pub ended-rows : n ≤ i → RowsRead n (drop at s) lists₀ Accepted lists
     unfolding rowsStatus
     ended-rows h =
         let w = ended _ _ _ _ _ _ (r .read) h in
-        record {
-          status = w .0;
-          made = λ _. rw (← (w .1), ← (r .fa .is), ← (r .ft .is), ← (r .fb .is), ← (r .ff .is));
-        }
+        record { status = w .0; made = λ _. rw (← (w .1), ← (r .is)) }

@@ -2,31 +2,21 @@
 use mathlib.Core.Bool.{Bool, true}
 use mathlib.Core.List.{List}
 use Prim.Native.Nat.{ℕ}
-use lib.IntN.{ℤ}
 use Rattle.outcome.specs.declared.Status.{Status}
 use Rattle.outcome.specs.declared.Status.the-variants.{Accepted}
 use Rattle.figures.specs.Figures.{Answered}
-use Rattle.buffer.specs.Buffer.{onto, joined}
-use Rattle.casefile.specs.Layout.{Row, rowMade}
-use Rattle.casefile.specs.Decode.{rowOf, rowAt, rowFine, rowStatus, rowsStatus, rowsOf}
+use Rattle.casefile.specs.Block.{Block, over, together}
+use Rattle.casefile.specs.Case.{rowsFine}
+use Rattle.casefile.specs.Decode.{rowOf, rowAt, rowStatus, rowsStatus, rowsOf}
 
 -- a row's figures at the front of v
-abbrev pub FiguresRead : ℕ → List ℕ → Bool → List ℤ → List ℕ → List ℤ → List ℕ → Type 0
-FiguresRead n v r a t b f = Answered true (rowFine (rowOf n v)) (rowOf n v) r (rowMade a t b f)
+abbrev pub FiguresRead : ℕ → List ℕ → Bool → Block → Type 0
+FiguresRead n v r lists = Answered true (rowsFine (rowOf n v)) (rowOf n v) r lists
 
 -- one row's field at the front of s
-abbrev pub RowRead : ℕ → List ℕ → Status → List ℤ → List ℕ → List ℤ → List ℕ → Type 0
-RowRead n s r a t b f = Answered Accepted (rowStatus n s) (rowAt n s) r (rowMade a t b f)
+abbrev pub RowRead : ℕ → List ℕ → Status → Block → Type 0
+RowRead n s r lists = Answered Accepted (rowStatus n s) (rowAt n s) r lists
 
--- lists with the rows' figures over their fronts
-abbrev pub over : List Row → List ℤ → List ℕ → List ℤ → List ℕ → Row
-over rows a t b f =
-    rowMade
-    (onto (joined (λ r. r .coefficients) rows) a)
-    (onto (joined (λ r. r .tolerances) rows) t)
-    (onto (joined (λ r. r .right-side) rows) b)
-    (onto (joined (λ r. r .right-tolerance) rows) f)
-
--- n rows' fields at the front of s
-abbrev pub RowsRead : ℕ → List ℕ → Status → List ℤ → List ℤ → List ℕ → List ℕ → List ℤ → List ℤ → List ℕ → List ℕ → Type 0
-RowsRead n s r a₀ a t₀ t b₀ b f₀ f = Answered Accepted (rowsStatus n n s) (over (rowsOf n n s) a₀ t₀ b₀ f₀) r (rowMade a t b f)
+-- n rows' fields at the front of s, their figures over the lists' fronts
+abbrev pub RowsRead : ℕ → List ℕ → Block → Status → Block → Type 0
+RowsRead n s entry r exit = Answered Accepted (rowsStatus n n s) (over (together (rowsOf n n s)) entry) r exit

@@ -1,7 +1,8 @@
 // The reader of the rows of a case.
 ghost use Prim.Native.Nat.{_+_, _≤_};
 ghost use lib.ListN.{length, drop};
-ghost use Rattle.casefile.specs.Layout.{rowLength, RowLists, RowsRoom};
+ghost use Rattle.casefile.specs.Block.{block, RowLists, RowsRoom};
+ghost use Rattle.casefile.specs.Layout.{rowLength};
 ghost use Rattle.row_reader.specs.Read.{FiguresRead, RowRead, RowsRead};
 use fields::HEADER_SIZE;
 use outcome::Refusal;
@@ -17,23 +18,23 @@ fn read_figures(
     f: &mut [u32],
 ) -> bool
     requires { ⌜ at + rowLength (length (now a)) ≤ length (now s) ⌝ }
-    requires { ⌜ RowLists (length (now a)) (now a) (now t) (now b) (now f) ⌝ }
-    ensures { λ r. ⌜ FiguresRead (length (now (a .entry))) (drop at (now (s .entry))) r (now (a .exit)) (now (t .exit)) (now (b .exit)) (now (f .exit)) ⌝ }
+    requires { ⌜ RowLists (length (now a)) (block (now a) (now t) (now b) (now f)) ⌝ }
+    ensures { λ r. ⌜ FiguresRead (length (now (a .entry))) (drop at (now (s .entry))) r (block (now (a .exit)) (now (t .exit)) (now (b .exit)) (now (f .exit))) ⌝ }
 {
     let n = a.len();
     let tolerances = at + casefile::tolerances_at(n);
     let right_side = at + casefile::right_side_at(n);
     let right_tolerance = at + casefile::right_tolerance_at(n);
-    if !figures::read_i16s(s, at, casefile::COEFFICIENT_LIMIT, a) {
+    if !figures::read_i16s(s, at, limits::COEFFICIENT_LIMIT, a) {
         return false;
     }
-    if !figures::read_u16s(s, tolerances, casefile::TOLERANCE_LIMIT, t) {
+    if !figures::read_u16s(s, tolerances, limits::TOLERANCE_LIMIT, t) {
         return false;
     }
-    if !figures::read_i32s(s, right_side, casefile::RIGHT_SIDE_LIMIT, b) {
+    if !figures::read_i32s(s, right_side, limits::RIGHT_SIDE_LIMIT, b) {
         return false;
     }
-    figures::read_u32s(s, right_tolerance, casefile::RIGHT_TOLERANCE_LIMIT, f)
+    figures::read_u32s(s, right_tolerance, limits::RIGHT_TOLERANCE_LIMIT, f)
 }
 
 // A row's field at a place of s, its figures into the four lists.
@@ -46,18 +47,17 @@ fn read_row(
     b: &mut [i32],
     f: &mut [u32],
 ) -> Status
-    requires { ⌜ RowLists n (now a) (now t) (now b) (now f) ⌝ }
-    ensures { λ r. ⌜ RowRead n (drop at (now (s .entry))) r (now (a .exit)) (now (t .exit)) (now (b .exit)) (now (f .exit)) ⌝ }
+    requires { ⌜ RowLists n (block (now a) (now t) (now b) (now f)) ⌝ }
+    ensures { λ r. ⌜ RowRead n (drop at (now (s .entry))) r (block (now (a .exit)) (now (t .exit)) (now (b .exit)) (now (f .exit))) ⌝ }
 {
     let field = fields::check_field(s, at, casefile::ROW_TAG, casefile::row_length(n));
     if let Status::Refused(_) = field {
         return field;
     }
-    if read_figures(s, at + HEADER_SIZE, a, t, b, f) {
-        Status::Accepted
-    } else {
-        Status::Refused(Refusal::OutsideLimits)
-    }
+    outcome::check(
+        read_figures(s, at + HEADER_SIZE, a, t, b, f),
+        Refusal::OutsideLimits,
+    )
 }
 
 // The fields of n rows from a place of s on: the first refusal, or none and their figures over the fronts of the four lists.
@@ -71,9 +71,8 @@ pub fn read_rows(
     b: &mut [i32],
     f: &mut [u32],
 ) -> Status
-    requires { ⌜ at ≤ length (now s) ⌝ }
-    requires { ⌜ RowsRoom n (now a) (now t) (now b) (now f) ⌝ }
-    ensures { λ r. ⌜ RowsRead n (drop at (now (s .entry))) r (now (a .entry)) (now (a .exit)) (now (t .entry)) (now (t .exit)) (now (b .entry)) (now (b .exit)) (now (f .entry)) (now (f .exit)) ⌝ }
+    requires { ⌜ RowsRoom n (block (now a) (now t) (now b) (now f)) ⌝ }
+    ensures { λ r. ⌜ RowsRead n (drop at (now (s .entry))) (block (now (a .entry)) (now (t .entry)) (now (b .entry)) (now (f .entry))) r (block (now (a .exit)) (now (t .exit)) (now (b .exit)) (now (f .exit))) ⌝ }
 {
     let size = casefile::row_size(n);
     let mut i = 0;

@@ -3,14 +3,15 @@ ghost use mathlib.Core.Path.{_≡_};
 ghost use Prim.Native.Nat.{_*_, _≤_};
 ghost use lib.ListN.{length};
 ghost use Rattle.buffer.specs.Buffer.{onto, joined};
-ghost use Rattle.casefile.specs.Layout.{rowSize, rowMade, RowLists, RowsRoom, rowField, split};
+ghost use Rattle.casefile.specs.Block.{block, RowLists, RowsRoom, split};
+ghost use Rattle.casefile.specs.Layout.{rowSize, rowField};
 use fields::HEADER_SIZE;
 
 // A row's field, over the front of out.
 fn write_row(out: &mut [u8], a: &[i16], t: &[u16], b: &[i32], f: &[u32])
     requires { ⌜ rowSize (length (now a)) ≤ length (now out) ⌝ }
-    requires { ⌜ RowLists (length (now a)) (now a) (now t) (now b) (now f) ⌝ }
-    ensures { λ _. ⌜ now (out .exit) ≡ onto (rowField (rowMade (now (a .entry)) (now (t .entry)) (now (b .entry)) (now (f .entry)))) (now (out .entry)) ⌝ }
+    requires { ⌜ RowLists (length (now a)) (block (now a) (now t) (now b) (now f)) ⌝ }
+    ensures { λ _. ⌜ now (out .exit) ≡ onto (rowField (block (now (a .entry)) (now (t .entry)) (now (b .entry)) (now (f .entry)))) (now (out .entry)) ⌝ }
 {
     let n = a.len();
     let tolerances = HEADER_SIZE + casefile::tolerances_at(n);
@@ -26,8 +27,8 @@ fn write_row(out: &mut [u8], a: &[i16], t: &[u16], b: &[i32], f: &[u32])
 // The fields of n rows, over the front of out.
 pub fn write_rows(out: &mut [u8], n: usize, a: &[i16], t: &[u16], b: &[i32], f: &[u32])
     requires { ⌜ n * rowSize n ≤ length (now out) ⌝ }
-    requires { ⌜ RowsRoom n (now a) (now t) (now b) (now f) ⌝ }
-    ensures { λ _. ⌜ now (out .exit) ≡ onto (joined rowField (split n n (now (a .entry)) (now (t .entry)) (now (b .entry)) (now (f .entry)))) (now (out .entry)) ⌝ }
+    requires { ⌜ RowsRoom n (block (now a) (now t) (now b) (now f)) ⌝ }
+    ensures { λ _. ⌜ now (out .exit) ≡ onto (joined rowField (split n n (block (now (a .entry)) (now (t .entry)) (now (b .entry)) (now (f .entry))))) (now (out .entry)) ⌝ }
 {
     let size = casefile::row_size(n);
     let mut i = 0;

@@ -3,6 +3,7 @@ use mathlib.Core.Path.{_≡_}
 use mathlib.Core.List.{List}
 use Prim.Native.Nat.{ℕ, suc, _^_, _<_, _≤_}
 use lib.IntN.{ℤ}
+use Rattle.limits.specs.Limits.{mostTanks, mostExponent}
 use Rattle.integers.specs.Tables.{Within}
 use Rattle.elimination.specs.Claims.{Factors, Permutation}
 use Rattle.judge.specs.System.{System, trial}
@@ -12,10 +13,14 @@ use Rattle.substitution.specs.Bounds.{right-limit}
 use Rattle.solver.specs.declared.Progress.{Progress}
 use Rattle.solver.specs.Refinement.{figure-limit}
 
+-- "The exponent e is 0 to 3 and D is 10 to the power e."
+abbrev pub scale-limit : ℕ
+scale-limit = 10 ^ mostExponent
+
 -- n is at most 8 and D at most 1,000. The figures have only the limits of their types: 16 bits for a coefficient, 32 for a right-hand side
 pub record Limits (s : System) (D : ℕ) : Type 0 where
-  pub rows : s .n ≤ 8
-  pub scale : D ≤ 1000
+  pub rows : s .n ≤ mostTanks
+  pub scale : D ≤ scale-limit
   pub coefficients : Within (2 ^ 15) (s .coefficients)
   pub right-sides : Within (2 ^ 31) (s .right-sides)
 
@@ -45,13 +50,13 @@ pub record Startable (w : List (List ℤ)) (o : List ℕ) (s : System) (D : ℕ)
 
 -- what an update asks, from the residuals R on
 pub record Updatable (n : ℕ) (w : List (List ℤ)) (o : List ℕ) (R Y : List ℤ) : Type 0 where
-  pub places : n ≤ 8
+  pub places : n ≤ mostTanks
   pub eliminated : Eliminated n w o
   pub residuals : Within right-limit R
   pub figures : Within figure-limit Y
 
 -- and from the corrections d on
 pub record Gainable (n : ℕ) (Y d : List ℤ) : Type 0 where
-  pub places : n ≤ 8
+  pub places : n ≤ mostTanks
   pub figures : Within figure-limit Y
   pub corrections : Within correction-limit d

@@ -4,6 +4,7 @@ use mathlib.Core.List.{List}
 use Prim.Native.Nat.{ℕ, _≤_}
 use native.Mathlib.Omega.{arith}
 use lib.IntN.{ℤ}
+use Rattle.limits.specs.Limits.{mostTanks}
 use Rattle.integers.specs.Tables.{zeros-within}
 use Rattle.judge.specs.declared.Judgement.{Judgement}
 use Rattle.judge.specs.System.{System, trial}
@@ -25,7 +26,7 @@ use Rattle.solver.specs.Limits.{Limits, Eliminated, Measured, Startable}
 -- ---- the kept trial, as the code finds it
 
 -- what is concluded from the standing beside a trial is the trial's judgement
-pub kept-concluded : (s : System) (D n : ℕ) (t : Status) (p : Progress) (j : Judgement) → s .n ≡ n → n ≤ 8 → Measured s D p → j ≡ concluded n (p .standing)
+pub kept-concluded : (s : System) (D n : ℕ) (t : Status) (p : Progress) (j : Judgement) → s .n ≡ n → n ≤ mostTanks → Measured s D p → j ≡ concluded n (p .standing)
     → record { status = t; rounds = p .rounds; trial = p .trial; judgement = j } ≡ kept s D t p
 kept-concluded s D n t p j e h m q =
     let c : concluded n (p .standing) ≡ judgement s (trial (s .n) D (p .trial)) =
@@ -36,7 +37,7 @@ kept-concluded s D n t p j e h m q =
 
 module _ (s : System) (D : ℕ) where
   pub start-measured : (p : Progress) → p ≡ start s D → Measured s D p
-  start-measured p e = rw e (record { figures = zeros-within 8; standing-is = refl })
+  start-measured p e = rw e (record { figures = zeros-within mostTanks; standing-is = refl })
 
   pub eliminated-whole : Limits s D → outcome (s .n) (eliminated (s .n) (s .coefficients) .steps) ≡ E.Complete
       → Eliminated (s .n) (eliminated (s .n) (s .coefficients) .rows) (eliminated (s .n) (s .coefficients) .order)

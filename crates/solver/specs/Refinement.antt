@@ -6,6 +6,7 @@ use Prim.Native.Nat.{ℕ, zero, suc, _+_}
 use lib.Dec.{leb, eqb}
 use lib.ListN.{getD, set}
 use lib.IntN.{ℤ, pos, natAbs, _+ℤ_}
+use Rattle.limits.specs.Limits.{mostTanks, trialLimit}
 use Rattle.integers.specs.Tables.{table, filled}
 use Rattle.judge.specs.System.{System, Trial, trial}
 use Rattle.judge.specs.Judgement.{residuals, standing}
@@ -16,7 +17,7 @@ use Rattle.solver.specs.declared.Progress.{Progress}
 
 -- "the elimination's row order": place i of n holds the figure of the row that stands there
 abbrev pub permuted : ℕ → List ℕ → List ℤ → List ℤ
-permuted n o R = filled 8 n (pos 0) (λ i. getD R (getD o i 0) (pos 0))
+permuted n o R = filled mostTanks n (pos 0) (λ i. getD R (getD o i 0) (pos 0))
 
 -- "The residual of each row is R = D × b − sum of A × Y. Put the residuals in the elimination's row order as z."
 abbrev pub ordered : List ℕ → System → Trial → List ℤ
@@ -30,7 +31,7 @@ substituted w z n = backward w (forward w z n) n
 
 -- "trial figure Y: −10,000,000 to 10,000,000"
 abbrev pub figure-limit : ℕ
-figure-limit = 10000000
+figure-limit = trialLimit
 
 abbrev pub gain : List ℤ → List ℤ → ℕ → ℤ
 gain Y d j = getD Y j (pos 0) +ℤ getD d j (pos 0)
@@ -67,7 +68,7 @@ measured s D k Y = record { within = true; rounds = k; trial = Y; standing = sta
 
 -- "Y starts at zero."
 abbrev pub start : System → ℕ → Progress
-start s D = measured s D 0 (table 8 (λ _. pos 0))
+start s D = measured s D 0 (table mostTanks (λ _. pos 0))
 
 -- refusal 9: what stood before the round stays, with the mark
 abbrev pub refused : Progress → Progress

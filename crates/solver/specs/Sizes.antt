@@ -6,6 +6,7 @@ use native.Mathlib.Nat.{le-trans}
 use native.Mathlib.Omega.{arith}
 use lib.ListN.{getD}
 use lib.IntN.{ℤ, pos, natAbs}
+use Rattle.limits.specs.Limits.{mostTanks, coefficientLimit, rightSideLimit}
 use Rattle.integers.specs.Tables.{getD-filled, all-filled, Within}
 use Rattle.judge.specs.System.{System, Trial, residual, row, trial}
 use Rattle.judge.specs.declared.Standing.{Standing}
@@ -19,11 +20,11 @@ use Rattle.substitution.specs.ForwardLaws.{backward-ready}
 use Rattle.substitution.specs.BackwardLaws.{backward-within}
 use Rattle.solver.specs.declared.Progress.{Progress}
 use Rattle.solver.specs.Refinement.{figure-limit, Update, permuted, ordered, substituted, gained, updated}
-use Rattle.solver.specs.Limits.{Limits, Ready, Updatable, Gainable}
+use Rattle.solver.specs.Limits.{scale-limit, Limits, Ready, Updatable, Gainable}
 
 -- ---- document 01's limits are enough
 
-pub limits-enough : (s : System) (D : ℕ) → s .n ≤ 8 → D ≤ 1000 → Within 32767 (s .coefficients) → Within 1000000000 (s .right-sides) → Limits s D
+pub limits-enough : (s : System) (D : ℕ) → s .n ≤ mostTanks → D ≤ scale-limit → Within coefficientLimit (s .coefficients) → Within rightSideLimit (s .right-sides) → Limits s D
 limits-enough s D n d a b =
     record { rows = n; scale = d; coefficients = λ j. omega (arith, a j); right-sides = λ j. omega (arith, b j) }
 
@@ -45,12 +46,12 @@ module _ (s : System) (D : ℕ) (Y : List ℤ) (h : Limits s D) (k : Within figu
 
 pub permuted-within : (n : ℕ) (o : List ℕ) (R : List ℤ) → Within right-limit R → Within right-limit (permuted n o R)
 permuted-within n o R h =
-    all-filled (λ (z : ℤ). natAbs z ≤ right-limit) (pos 0) (omega arith) 8 n (λ i. getD R (getD o i 0) (pos 0)) (λ i l. h (getD o i 0))
+    all-filled (λ (z : ℤ). natAbs z ≤ right-limit) (pos 0) (omega arith) mostTanks n (λ i. getD R (getD o i 0) (pos 0)) (λ i l. h (getD o i 0))
 
 -- place i holds the residual of the row that stands there
-pub ordered-at : (s : System) (t : Trial) (o : List ℕ) (i : ℕ) → s .n ≤ 8 → i < s .n → getD o i 0 < s .n → getD (ordered o s t) i (pos 0) ≡ residual (row s (getD o i 0)) t
+pub ordered-at : (s : System) (t : Trial) (o : List ℕ) (i : ℕ) → s .n ≤ mostTanks → i < s .n → getD o i 0 < s .n → getD (ordered o s t) i (pos 0) ≡ residual (row s (getD o i 0)) t
 ordered-at s t o i h l k =
-    getD-filled (pos 0) (λ m. getD (residuals s t) (getD o m 0) (pos 0)) 8 (s .n) i l (omega arith)
+    getD-filled (pos 0) (λ m. getD (residuals s t) (getD o m 0) (pos 0)) mostTanks (s .n) i l (omega arith)
     ∙ at-residuals s t h (getD o i 0) k
 
 -- ---- each pass may follow the one before

@@ -10,12 +10,16 @@ use judge::fill_residuals;
 use judge::fill_scaled_sides;
 use judge::fill_scaled_tolerances;
 use judge::first_beyond;
+use limits::MOST_COEFFICIENTS;
+use limits::MOST_TANKS;
+use limits::TRIAL_LIMIT;
 use substitution::backward_pass;
 use substitution::forward_pass;
 ghost use mathlib.Core.Path.{_≡_};
 ghost use mathlib.Core.List.{List};
 ghost use Prim.Native.Nat.{ℕ, _≤_};
 ghost use lib.IntN.{ℤ};
+ghost use Rattle.limits.specs.Limits.{mostTanks};
 ghost use Rattle.elimination.specs.Claims.{Permutation};
 ghost use Rattle.judge.specs.System.{System, system};
 ghost use Rattle.solver.specs.Refinement.{permuted, substituted, update, gained-from, gained, round as roundOf, ended-by as endedBy, refined, start as startOf};
@@ -27,13 +31,18 @@ ghost use Rattle.solver.specs.Limits.{Limits, Measured, Gainable, Updata
 pub struct Progress {
     pub within: bool,
     pub rounds: usize,
-    pub trial: [i32; 8],
+    pub trial: [i32; MOST_TANKS],
     pub standing: Standing,
 }
 
 // The figures of the places in `order`, into z; 0 past the n-th.
-fn order_figures<'a>(n: usize, figures: &'a [i64; 8], order: &'a [usize; 8], z: &mut [i64; 8])
-    requires { ⌜ (n ≤ 8) × Permutation n (now order) × (now z ≡ none) ⌝ }
+fn order_figures<'a>(
+    n: usize,
+    figures: &'a [i64; MOST_TANKS],
+    order: &'a [usize; MOST_TANKS],
+    z: &mut [i64; MOST_TANKS],
+)
+    requires { ⌜ (n ≤ mostTanks) × Permutation n (now order) × (now z ≡ none) ⌝ }
     ensures { λ r. ⌜ now (z .exit) ≡ permuted n (now (order .entry)) (now (figures .entry)) ⌝ }
 {
     for i in 0..n {
@@ -43,13 +52,13 @@ fn order_figures<'a>(n: usize, figures: &'a [i64; 8], order: &'a [usize; 8], z: 
 }
 
 // Y gains d, from the first tank on, up to a figure outside its limit, and whether there was none.
-fn gain_figures(n: usize, trial: &mut [i32; 8], corrections: &[i64; 8]) -> bool
+fn gain_figures(n: usize, trial: &mut [i32; MOST_TANKS], corrections: &[i64; MOST_TANKS]) -> bool
     requires { ⌜ Gainable n (now trial) (now corrections) ⌝ }
     ensures { λ r. ⌜ update r (now (trial .exit)) ≡ gained-from (now (corrections .entry)) 0 n (now (trial .entry)) ⌝ }
 {
     for j in 0..n {
         let v = (trial[j] as i64) + corrections[j];
-        if 10000000 < magnitude(v) {
+        if TRIAL_LIMIT < magnitude(v) {
             return false;
         }
         trial[j] = v as i32;
@@ -60,18 +69,18 @@ fn gain_figures(n: usize, trial: &mut [i32; 8], corrections: &[i64; 8]) -> bool
 // The next trial in place of the last, from the residuals of that, and whether every figure of it is within its limit.
 fn update_trial<'a>(
     n: usize,
-    rows: &'a [[i64; 8]; 8],
-    order: &'a [usize; 8],
-    residuals: &'a [i64; 8],
-    trial: &mut [i32; 8],
+    rows: &'a [[i64; MOST_TANKS]; MOST_TANKS],
+    order: &'a [usize; MOST_TANKS],
+    residuals: &'a [i64; MOST_TANKS],
+    trial: &mut [i32; MOST_TANKS],
 ) -> bool
     requires { ⌜ Updatable n (now rows) (now order) (now residuals) (now trial) ⌝ }
     ensures { λ r. ⌜ update r (now (trial .exit)) ≡ gained n (now (trial .entry)) (substituted (now (rows .entry)) (permuted n (now (order .entry)) (now (residuals .entry))) n) ⌝ }
 {
-    let mut z = [0i64; 8];
+    let mut z = [0i64; MOST_TANKS];
     order_figures(n, residuals, order, &mut z);
     forward_pass(rows, &mut z, n);
-    let mut d = [0i64; 8];
+    let mut d = [0i64; MOST_TANKS];
     if backward_pass(rows, &z, n, &mut d) {
         gain_figures(n, trial, &d)
     } else {
@@ -83,12 +92,12 @@ fn update_trial<'a>(
 fn round<'a>(
     n: usize,
     scale: u16,
-    coefficients: &'a [i16; 64],
-    tolerances: &'a [u16; 64],
-    right_sides: &'a [i32; 8],
-    right_tolerances: &'a [u32; 8],
-    rows: &'a [[i64; 8]; 8],
-    order: &'a [usize; 8],
+    coefficients: &'a [i16; MOST_COEFFICIENTS],
+    tolerances: &'a [u16; MOST_COEFFICIENTS],
+    right_sides: &'a [i32; MOST_TANKS],
+    right_tolerances: &'a [u32; MOST_TANKS],
+    rows: &'a [[i64; MOST_TANKS]; MOST_TANKS],
+    order: &'a [usize; MOST_TANKS],
     mut progress: Progress,
 ) -> Progress
     requires { ⌜ Ready (now rows) (now order) (system n (now coefficients) (now tolerances) (now «right_sides») (now «right_tolerances»)) scale progress ⌝ }
@@ -135,12 +144,12 @@ fn ended(within: bool, unmet: usize) -> bool
 fn refine<'a>(
     n: usize,
     scale: u16,
-    coefficients: &'a [i16; 64],
-    tolerances: &'a [u16; 64],
-    right_sides: &'a [i32; 8],
-    right_tolerances: &'a [u32; 8],
-    rows: &'a [[i64; 8]; 8],
-    order: &'a [usize; 8],
+    coefficients: &'a [i16; MOST_COEFFICIENTS],
+    tolerances: &'a [u16; MOST_COEFFICIENTS],
+    right_sides: &'a [i32; MOST_TANKS],
+    right_tolerances: &'a [u32; MOST_TANKS],
+    rows: &'a [[i64; MOST_TANKS]; MOST_TANKS],
+    order: &'a [usize; MOST_TANKS],
     rounds: usize,
     mut progress: Progress,
 ) -> Progress
@@ -179,7 +188,7 @@ pub enum Status {
 pub struct Solution {
     pub status: Status,
     pub rounds: usize,
-    pub trial: [i32; 8],
+    pub trial: [i32; MOST_TANKS],
     pub judgement: Judgement,
 }
 
@@ -187,21 +196,21 @@ pub struct Solution {
 fn start<'a>(
     n: usize,
     scale: u16,
-    right_sides: &'a [i32; 8],
-    right_tolerances: &'a [u32; 8],
+    right_sides: &'a [i32; MOST_TANKS],
+    right_tolerances: &'a [u32; MOST_TANKS],
 ) -> Progress
-    requires { ⌜ n ≤ 8 ⌝ }
+    requires { ⌜ n ≤ mostTanks ⌝ }
     ensures { λ r. ⌜ ((A : List ℤ) (E : List ℕ) → r ≡ startOf (system n A E (now («right_sides» .entry)) (now («right_tolerances» .entry))) scale) ⌝ }
 {
     let standing = Standing {
         unmet: 0,
-        residuals: [0i64; 8],
-        reaches: [0u64; 8],
+        residuals: [0i64; MOST_TANKS],
+        reaches: [0u64; MOST_TANKS],
     };
     let mut first = Progress {
         within: true,
         rounds: 0,
-        trial: [0i32; 8],
+        trial: [0i32; MOST_TANKS],
         standing,
     };
     fill_scaled_sides(n, scale, right_sides, &mut first.standing.residuals);
@@ -213,7 +222,7 @@ fn start<'a>(
 
 // The kept trial of n rows with its judgement, in whatever system it was measured.
 fn kept(n: usize, status: Status, progress: Progress) -> Solution
-    requires { ⌜ n ≤ 8 ⌝ }
+    requires { ⌜ n ≤ mostTanks ⌝ }
     ensures { λ r. ⌜ ((s : System) (D : ℕ) → s .n ≡ n → Measured s D progress → r ≡ keptOf s D status progress) ⌝ }
 {
     let trial = progress.trial;
@@ -227,7 +236,7 @@ fn kept(n: usize, status: Status, progress: Progress) -> Solution
 }
 
 fn answered(n: usize, progress: Progress) -> Solution
-    requires { ⌜ n ≤ 8 ⌝ }
+    requires { ⌜ n ≤ mostTanks ⌝ }
     ensures { λ r. ⌜ ((s : System) (D : ℕ) → s .n ≡ n → Measured s D progress → r ≡ answeredOf s D progress) ⌝ }
 {
     if progress.within {
@@ -241,17 +250,17 @@ fn answered(n: usize, progress: Progress) -> Solution
 pub fn solve<'a>(
     n: usize,
     scale: u16,
-    coefficients: &'a [i16; 64],
-    tolerances: &'a [u16; 64],
-    right_sides: &'a [i32; 8],
-    right_tolerances: &'a [u32; 8],
+    coefficients: &'a [i16; MOST_COEFFICIENTS],
+    tolerances: &'a [u16; MOST_COEFFICIENTS],
+    right_sides: &'a [i32; MOST_TANKS],
+    right_tolerances: &'a [u32; MOST_TANKS],
     rounds: usize,
 ) -> Solution
     requires { ⌜ Limits (system n (now coefficients) (now tolerances) (now «right_sides») (now «right_tolerances»)) scale ⌝ }
     ensures { λ r. ⌜ r ≡ solution (system n (now (coefficients .entry)) (now (tolerances .entry)) (now («right_sides» .entry)) (now («right_tolerances» .entry))) scale rounds ⌝ }
 {
-    let mut rows = [[0i64; 8]; 8];
-    let mut order = [0usize; 8];
+    let mut rows = [[0i64; MOST_TANKS]; MOST_TANKS];
+    let mut order = [0usize; MOST_TANKS];
     let outcome = eliminate(n, coefficients, &mut rows, &mut order);
     let first = start(n, scale, right_sides, right_tolerances);
     match outcome {

@@ -11,6 +11,7 @@ use lib.IntN.{ℤ, pos, natAbs, _-ℤ_, _*ℤ_}
 use borrow.Author.Tests.{le-leb, lt-leb, leb-true}
 use mir.Syntax.{w64}
 use mir.Val.{SFits}
+use Rattle.limits.specs.Limits.{mostTanks}
 use Rattle.integers.specs.Size.{natAbs-subℤ, sfits-size, product-ok}
 use Rattle.integers.specs.Sums.{sum, sum-bound}
 use Rattle.integers.specs.Tables.{Within, zeros-within, within-set}
@@ -84,4 +85,4 @@ from-within w z n (suc i) d h = go (leb (natAbs (correction-at w z n i d)) corre
 
 pub backward-within : (w : List (List ℤ)) (z : List ℤ) (n : ℕ) → Within correction-limit (backward w z n .values)
 unfolding backward
-backward-within w z n = from-within w z n n none (zeros-within 8)
+backward-within w z n = from-within w z n n none (zeros-within mostTanks)

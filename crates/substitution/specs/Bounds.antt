@@ -3,6 +3,7 @@ use mathlib.Core.List.{List}
 use Prim.Native.Nat.{ℕ, _*_, _^_, _<_, _≤_}
 use lib.ListN.{getD}
 use lib.IntN.{ℤ, pos, natAbs}
+use Rattle.limits.specs.Limits.{mostTanks}
 use Rattle.integers.specs.Tables.{Within}
 use Rattle.elimination.specs.Claims.{Factors}
 use Rattle.substitution.specs.Passes.{correction-limit}
@@ -17,19 +18,19 @@ forward-limit i = 2 ^ i * right-limit
 
 -- what the forward pass asks: rows as elimination leaves them, and a right-hand side within its limit
 pub record Forward (w : List (List ℤ)) (z : List ℤ) (n : ℕ) : Type 0 where
-  pub rows : n ≤ 8
+  pub rows : n ≤ mostTanks
   pub factors : Factors n w
   pub right : Within right-limit z
 
 -- what the backward pass asks: the right-hand side as the forward pass leaves it
 pub record Backward (w : List (List ℤ)) (z : List ℤ) (n : ℕ) : Type 0 where
-  pub rows : n ≤ 8
+  pub rows : n ≤ mostTanks
   pub factors : Factors n w
   pub right : Within (forward-limit 7) z
 
 -- what the reduction of one entry asks
 pub record Reducible (row z : List ℤ) (i : ℕ) : Type 0 where
-  pub place : i < 8
+  pub place : i < mostTanks
   pub multipliers : (j : ℕ) → j < i → natAbs (getD row j (pos 0)) ≤ 16384
   pub above : (j : ℕ) → j < i → natAbs (getD z j (pos 0)) ≤ forward-limit j
   pub own : natAbs (getD z i (pos 0)) ≤ right-limit
@@ -37,7 +38,7 @@ pub record Reducible (row z : List ℤ) (i : ℕ) : Type 0 where
 -- what the sum above the diagonal asks
 pub record Summable (row d : List ℤ) (i n : ℕ) : Type 0 where
   pub place : i < n
-  pub columns : n ≤ 8
+  pub columns : n ≤ mostTanks
   pub entries : Within (2 ^ 30) row
   pub corrections : Within correction-limit d
 

@@ -11,6 +11,7 @@ use lib.IntN.{ℤ, pos, natAbs, _*ℤ_}
 use lib.Pow.{pow-mono, pow-pos}
 use mir.Syntax.{w64}
 use mir.Val.{SFits}
+use Rattle.limits.specs.Limits.{mostTanks}
 use Rattle.integers.specs.Size.{natAbs-subℤ, sfits-size, product-ok}
 use Rattle.integers.specs.Tables.{all-set-at, Within}
 use Rattle.rounding.specs.Laws.{rnd-le}
@@ -72,7 +73,7 @@ grown-set z i v g h =
         go (yes p) = g .above l p
         go (no p) = omega (arith, g .fresh l (omega arith), pow-pos l)
 
-pub reducible : (w : List (List ℤ)) (n : ℕ) (z : List ℤ) (i : ℕ) → n ≤ 8 → Factors n w → i < n → Grown z i → Reducible (getD w i []) z i
+pub reducible : (w : List (List ℤ)) (n : ℕ) (z : List ℤ) (i : ℕ) → n ≤ mostTanks → Factors n w → i < n → Grown z i → Reducible (getD w i []) z i
 reducible w n z i r h l g =
     record { place = omega arith; multipliers = λ j p. h .multipliers i j l p; above = g .above; own = g .fresh i (omega arith) }
 

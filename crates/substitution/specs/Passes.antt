@@ -6,6 +6,7 @@ use Prim.Native.Nat.{ℕ, zero, suc, _+_, _-_}
 use lib.Dec.{leb}
 use lib.ListN.{getD, set}
 use lib.IntN.{ℤ, pos, natAbs, _-ℤ_, _*ℤ_}
+use Rattle.limits.specs.Limits.{mostTanks}
 use Rattle.integers.specs.Sums.{sum}
 use Rattle.integers.specs.Tables.{table}
 use Rattle.rounding.specs.Round.{rnd}
@@ -43,7 +44,7 @@ corrections b d = record { within = b; values = d }
 
 -- before any is formed
 abbrev pub none : List ℤ
-none = table 8 (λ _. pos 0)
+none = table mostTanks (λ _. pos 0)
 
 -- "A correction is outside ±20,000,000"
 abbrev pub correction-limit : ℕ

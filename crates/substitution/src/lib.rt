@@ -1,5 +1,6 @@
 // Substitution with eliminated rows: the forward pass with the multipliers, the backward pass with the pivots.
 use integers::magnitude;
+use limits::MOST_TANKS;
 use rounding::rounded_by_scale;
 use rounding::rounded_quotient;
 ghost use mathlib.Core.Path.{_≡_};
@@ -9,7 +10,7 @@ ghost use lib.ListN.{getD};
 ghost use lib.IntN.{pos};
 
 // Entry i of the right-hand side, less what the row's multipliers take of the entries above it.
-fn reduced_entry(row: &[i64; 8], z: &[i64; 8], i: usize) -> i64
+fn reduced_entry(row: &[i64; MOST_TANKS], z: &[i64; MOST_TANKS], i: usize) -> i64
     requires { ⌜ Reducible (now row) (now z) i ⌝ }
     ensures { λ r. ⌜ r ≡ reduced (now (row .entry)) (now (z .entry)) (getD (now (z .entry)) i (pos 0)) i ⌝ }
 {
@@ -21,7 +22,7 @@ fn reduced_entry(row: &[i64; 8], z: &[i64; 8], i: usize) -> i64
 }
 
 // The sum over the columns above i of the row's entries times the corrections.
-fn sum_above(row: &[i64; 8], d: &[i64; 8], i: usize, n: usize) -> i64
+fn sum_above(row: &[i64; MOST_TANKS], d: &[i64; MOST_TANKS], i: usize, n: usize) -> i64
     requires { ⌜ Summable (now row) (now d) i n ⌝ }
     ensures { λ r. ⌜ r ≡ sum-above (now (row .entry)) (now (d .entry)) i n ⌝ }
 {
@@ -33,7 +34,7 @@ fn sum_above(row: &[i64; 8], d: &[i64; 8], i: usize, n: usize) -> i64
 }
 
 // The correction of row i, from the entry of the right-hand side and the corrections above.
-fn correction_of(row: &[i64; 8], z: i64, d: &[i64; 8], i: usize, n: usize) -> i64
+fn correction_of(row: &[i64; MOST_TANKS], z: i64, d: &[i64; MOST_TANKS], i: usize, n: usize) -> i64
     requires { ⌜ Correctable (now row) z (now d) i n ⌝ }
     ensures { λ r. ⌜ r ≡ correction (now (row .entry)) z (now (d .entry)) i n ⌝ }
 {
@@ -42,7 +43,7 @@ fn correction_of(row: &[i64; 8], z: i64, d: &[i64; 8], i: usize, n: usize) -> i6
 }
 
 // Every entry of the right-hand side reduced by the multipliers, from the top, in place. Entries past the rows stay as they are.
-pub fn forward_pass(rows: &[[i64; 8]; 8], z: &mut [i64; 8], n: usize)
+pub fn forward_pass(rows: &[[i64; MOST_TANKS]; MOST_TANKS], z: &mut [i64; MOST_TANKS], n: usize)
     requires { ⌜ Forward (now rows) (now z) n ⌝ }
     ensures { λ r. ⌜ now (z .exit) ≡ forward (now (rows .entry)) (now (z .entry)) n ⌝ }
 {
@@ -52,7 +53,12 @@ pub fn forward_pass(rows: &[[i64; 8]; 8], z: &mut [i64; 8], n: usize)
 }
 
 // The corrections, from the last row to the first, and whether all of them were formed, each within its limit. The first outside it ends the pass; those not formed stay 0.
-pub fn backward_pass(rows: &[[i64; 8]; 8], z: &[i64; 8], n: usize, d: &mut [i64; 8]) -> bool
+pub fn backward_pass(
+    rows: &[[i64; MOST_TANKS]; MOST_TANKS],
+    z: &[i64; MOST_TANKS],
+    n: usize,
+    d: &mut [i64; MOST_TANKS],
+) -> bool
     requires { ⌜ Backward (now rows) (now z) n × (now d ≡ none) ⌝ }
     ensures { λ r. ⌜ corrections r (now (d .exit)) ≡ backward (now (rows .entry)) (now (z .entry)) n ⌝ }
 {

@@ -17,6 +17,6 @@ determinant A = getD A 0 (pos 0) *ℤ getD A 3 (pos 0) -ℤ getD A 1 (pos 0) *�
 abbrev pub nearEqual : Case
 nearEqual = tanks (pos 32767 ∷ pos 1 ∷ pos 32766 ∷ pos 1 ∷ []) (pos 0 ∷ pos 0 ∷ [])
 
-pub not-singular : (determinant (nearEqual .coefficients) ≡ pos 1) × (found nearEqual ≡ refused 8 (lent longestRecord))
+pub not-singular : (determinant (nearEqual .rows .coefficients) ≡ pos 1) × (found nearEqual ≡ refused 8 (lent longestRecord))
 unfolding found
 not-singular = (refl, refl)

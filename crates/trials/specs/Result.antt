@@ -15,9 +15,10 @@ use Rattle.judge.specs.Finding.{Finding, factor-num, factor-den}
 use Rattle.bigendian.specs.Number.{be, bytes}
 use Rattle.figures.specs.Figures.{items, spread, all}
 use Rattle.fields.specs.Field.{field, fieldStatus}
-use Rattle.casefile.specs.Case.{Case}
-use Rattle.casefile.specs.Layout.{rowBytes, split, encode}
-use Rattle.casefile.specs.Decode.{headStatus, rowOf, rowFine, rowStatus, rowsStatus, trialStatus, trialOf, afterTrial, endStatus, inputStatus, caseOf, decode, stored}
+use Rattle.casefile.specs.Block.{split}
+use Rattle.casefile.specs.Case.{Case, rowsFine}
+use Rattle.casefile.specs.Layout.{rowBytes, encode}
+use Rattle.casefile.specs.Decode.{headStatus, rowOf, rowStatus, rowsStatus, trialStatus, trialOf, endStatus, tailStatus, inputStatus, caseOf, decode, stored}
 use Rattle.casefile.specs.Write.{Written}
 use Rattle.elimination.specs.Steps.{working-row, working, pivot-from, pivot-row, eliminated-row, eliminated-below, advanced, after-steps, eliminated}
 use Rattle.elimination.specs.Outcome.{outcome}
@@ -89,5 +90,5 @@ lent room = replicate room 0xA5
 -- the call on a case's bytes, with the shortest result buffer that it takes. The line below names all that the call computes with, once for
 -- every statement about it
 unfoldable pub found : Case → Result
-unfolding encode rowBytes split spread call decode inputStatus caseOf headStatus rowsStatus rowStatus rowOf rowFine trialStatus trialOf afterTrial endStatus stored fieldStatus items all be worked answer-of solution eliminated after-steps advanced pivot-row pivot-from eliminated-below eliminated-row working working-row fill outcome refined round updated gained-from forward backward backward-from correction rnd near rounds-up judgement first-unmet first-not deciding first-greatest order ordered residual reach filled finished recordOf judgedFields run field bytes
+unfolding encode rowBytes split spread call decode inputStatus caseOf headStatus rowsStatus rowStatus rowOf rowsFine trialStatus trialOf endStatus tailStatus stored fieldStatus items all be worked answer-of solution eliminated after-steps advanced pivot-row pivot-from eliminated-below eliminated-row working working-row fill outcome refined round updated gained-from forward backward backward-from correction rnd near rounds-up judgement first-unmet first-not deciding first-greatest order ordered residual reach filled finished recordOf judgedFields run field bytes
 found c = resultOf (c .n) (call (encode c) (lent longestRecord))

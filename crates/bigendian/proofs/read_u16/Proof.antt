@@ -1,7 +1,6 @@
 -- `bigendian::read_u16` meets its contract: a number in two parts of one byte each.
 -- Assumes nothing.
 use mathlib.Core.Path.{sym}
-use denote.Ref.{now}
 use Rattle.bigendian.specs.NumberLaws.{be-two}
 use borrow.Author.Needs.{needs}
 use Rattle.bigendian.proofs.read_u16.Statement.{statement}
@@ -16,5 +15,4 @@ read-u16-spec =
     (λ c. search needs)
     (λ c κs. search needs)
     (λ c. search needs)
-    (λ c. let s = c .before .before .before in
-    rw (c .before .byte .ensures .0, c .byte2 .ensures .0) (sym (be-two 1 1 (now (s .args .s)) (s .args .at) (s .pre)))))
+    (λ c. rw (c .before .byte .ensures .0, c .byte2 .ensures .0) (sym (be-two 1 1 _ _ (c .before .before .before .pre)))))

@@ -1,7 +1,6 @@
 -- `bigendian::read_u32` meets its contract: a number in two parts of 2 bytes each.
 -- Assumes nothing.
 use mathlib.Core.Path.{sym}
-use denote.Ref.{now}
 use Rattle.bigendian.specs.NumberLaws.{be-two}
 use borrow.Author.Needs.{needs}
 use Rattle.bigendian.proofs.read_u32.Statement.{statement}
@@ -18,5 +17,4 @@ read-u32-spec =
     (λ c. search needs)
     (λ c. search needs)
     (λ c. search needs)
-    (λ c. let s = c .before .before .before in
-    rw (c .before .read-u16 .ensures, c .read-u162 .ensures) (sym (be-two 2 2 (now (s .args .s)) (s .args .at) (s .pre)))))
+    (λ c. rw (c .before .read-u16 .ensures, c .read-u162 .ensures) (sym (be-two 2 2 _ _ (c .before .before .before .pre)))))

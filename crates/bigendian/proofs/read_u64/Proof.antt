@@ -1,7 +1,6 @@
 -- `bigendian::read_u64` meets its contract: a number in two parts of 4 bytes each.
 -- Assumes nothing.
 use mathlib.Core.Path.{sym}
-use denote.Ref.{now}
 use Rattle.bigendian.specs.NumberLaws.{be-two}
 use borrow.Author.Needs.{needs}
 use Rattle.bigendian.proofs.read_u64.Statement.{statement}
@@ -18,5 +17,4 @@ read-u64-spec =
     (λ c. search needs)
     (λ c. search needs)
     (λ c. search needs)
-    (λ c. let s = c .before .before .before in
-    rw (c .before .read-u32 .ensures, c .read-u322 .ensures) (sym (be-two 4 4 (now (s .args .s)) (s .args .at) (s .pre)))))
+    (λ c. rw (c .before .read-u32 .ensures, c .read-u322 .ensures) (sym (be-two 4 4 _ _ (c .before .before .before .pre)))))

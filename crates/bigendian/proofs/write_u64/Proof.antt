@@ -1,6 +1,5 @@
 -- `bigendian::write_u64` meets its contract: a number in two parts of 4 bytes each, one after the other.
 -- Assumes nothing.
-use denote.Ref.{now}
 use Rattle.bigendian.specs.NumberLaws.{written-two}
 use borrow.Author.Needs.{needs}
 use Rattle.bigendian.proofs.write_u64.Statement.{statement}
@@ -18,7 +17,5 @@ write-u64-spec =
     (λ c. search needs)
     (λ c κs. search needs)
     (λ c. search needs)
-    (λ c. let high = c .before .before .before .before .before .before .write-u32 in
-    let low = c .before .before .write-u322 in
-    let s = c .before .before .before .before .before .before .before .before .before in
-    written-two 4 4 (s .args .x) (now (s .args .out)) (high .last .0) (low .last .0) (s .fits .x .fits) (high .ensures) (low .ensures)))
+    (λ c. let high = c .before .before .before .before .before .before in
+    written-two 4 4 _ _ _ _ (high .before .before .before .fits .x .fits) (high .write-u32 .ensures) (c .before .before .write-u322 .ensures)))

@@ -1,9 +1,11 @@
 -- `case_writer::check_case` meets its contract: head, counts, figures, in this order.
 -- Assumes nothing.
-use mathlib.Core.Path.{_≡_, sym, _∙_}
-use mathlib.Core.Bool.{true}
+use mathlib.Core.Path.{_≡_, sym, ap, _∙_}
+use mathlib.Core.Bool.{Bool, true}
 use denote.Ref.{now}
 use borrow.Author.Tests.{not-true, not-false}
+use Rattle.outcome.specs.declared.Refusal.the-variants.{OutsideLimits}
+use Rattle.outcome.specs.Outcome.{check}
 use Rattle.casefile.specs.Case.{Case, given, headFine, counted, figuresFine, caseStatus}
 use Rattle.casefile.specs.CaseLaws.{head-small}
 use borrow.Author.Needs.{needs}
@@ -35,20 +37,6 @@ module _ (c : tie.After-counts-fine) where
   unfolding counted
   counts-are = c .counts-fine .ensures
 
-module _ (c : tie.After-figures-fine) where
-  abbrev counts : tie.After-counts-fine
-  counts = c .before .before
-
-  counts-passed : counted (case-of (start (head counts))) ≡ true
-  counts-passed = sym (counts-are counts) ∙ not-false _ (c .before .if2 .left)
-
-  figures-are : c .figures-fine .result ≡ figuresFine (case-of (start (head counts)))
-  unfolding figuresFine
-  figures-are = c .figures-fine .ensures
-
-head-fine-requires : tie.Need-head-fine-requires
-head-fine-requires c κs = search needs
-
 returns : tie.Need-returns
 unfolding caseStatus
 returns c = rw (sym (head-is (c .before)) ∙ not-true _ (c .if1 .taken))
@@ -62,29 +50,20 @@ returns-2 : tie.Need-returns-2
 unfolding caseStatus
 returns-2 c = rw (head-passed (c .before), sym (counts-are (c .before)) ∙ not-true _ (c .if2 .taken))
 
-figures-fine-requires : tie.Need-figures-fine-requires
-figures-fine-requires c κs = search needs
-
 returns-3 : tie.Need-returns-3
-unfolding caseStatus
+unfolding caseStatus figuresFine
 returns-3 c =
-    let w = c .before in
-    rw (head-passed (counts w), counts-passed w, sym (figures-are w) ∙ not-true _ (c .if3 .taken))
-
-returns-4 : tie.Need-returns-4
-unfolding caseStatus
-returns-4 c =
-    let w = c .before in
-    rw (head-passed (counts w), counts-passed w, sym (figures-are w) ∙ not-false _ (c .if3 .left))
+    let k = c .before .before .before in
+    rw (head-passed k, sym (counts-are k) ∙ not-false _ (c .before .before .if2 .left)) (c .check .ensures ∙ ap (λ (b : Bool). check b OutsideLimits) (c .before .figures-fine .ensures))
 
 pub check-case-spec : {M : Type 1} → statement M
 check-case-spec =
     tie.close
     (tie.spec
-    head-fine-requires
+    (λ c κs. search needs)
     returns
     counts-fine-requires
     returns-2
-    figures-fine-requires
-    returns-3
-    returns-4)
+    (λ c κs. search needs)
+    (λ c κs. search needs)
+    returns-3)

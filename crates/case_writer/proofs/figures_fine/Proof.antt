@@ -5,7 +5,8 @@ use mathlib.Core.Bool.{true}
 use denote.Ref.{now}
 use borrow.Author.Tests.{not-true, not-false}
 use Rattle.figures.specs.Figures.{within, upTo, all}
-use Rattle.casefile.specs.Case.{coefficientLimit, toleranceLimit, rightSideLimit, rightToleranceLimit, figuresFine}
+use Rattle.limits.specs.Limits.{coefficientLimit, toleranceLimit, rightSideLimit, rightToleranceLimit}
+use Rattle.casefile.specs.Case.{rowsFine, figuresFine}
 use borrow.Author.Needs.{needs}
 use Rattle.case_writer.proofs.figures_fine.Statement.{statement}
 use Rattle.case_writer.proofs.figures_fine.Tie as tie
@@ -49,28 +50,28 @@ module _ (c : tie.After-all-u32) where
   right-tolerances-are = c .all-u32 .ensures
 
 returns : tie.Need-returns
-unfolding figuresFine
+unfolding figuresFine rowsFine
 returns c = simp (sym (coefficients-are (c .before)) ∙ not-true _ (c .if1 .taken))
 
 returns-2 : tie.Need-returns-2
-unfolding figuresFine
+unfolding figuresFine rowsFine
 returns-2 c = let w = c .before in simp (coefficients-fine w, sym (tolerances-are w) ∙ not-true _ (c .if2 .taken))
 
 returns-3 : tie.Need-returns-3
-unfolding figuresFine
+unfolding figuresFine rowsFine
 returns-3 c =
     let w = c .before in
     simp (coefficients-fine (second w), tolerances-fine w, sym (right-sides-are w) ∙ not-true _ (c .if3 .taken))
 
 returns-4 : tie.Need-returns-4
-unfolding figuresFine
+unfolding figuresFine rowsFine
 returns-4 c =
     let w = c .before in
     let v = third w in
     simp (coefficients-fine (second v), tolerances-fine v, right-sides-fine w, sym (right-tolerances-are w) ∙ not-true _ (c .if4 .taken))
 
 returns-5 : tie.Need-returns-5
-unfolding figuresFine
+unfolding figuresFine rowsFine
 returns-5 c =
     let w = c .before .before in
     let v = third w in

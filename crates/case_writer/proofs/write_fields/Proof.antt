@@ -6,6 +6,7 @@ use denote.Ref.{now}
 use Rattle.fields.specs.Field.{endSize}
 use Rattle.casefile.specs.Case.{Case, given}
 use Rattle.casefile.specs.Layout.{rowsEnd, trialSize, longestCase}
+use Rattle.casefile.specs.BlockLaws.{counts}
 use Rattle.casefile.specs.CaseLaws.{Good, good, length-encode, longest}
 use Rattle.case_writer.proofs.Whole.{fields-written}
 use borrow.Author.Needs.{needs}
@@ -27,7 +28,7 @@ module _ (s : tie.Start) where
 write-rows-requires : tie.Need-write-rows-requires
 write-rows-requires c κs =
     let s = c .before .before .before .before .before .before .before .before in
-    omega (arith, fine s .limits .small, fine s .lists, size s)
+    omega (arith, fine s .limits .small, counts (fine s .rows), size s)
 
 -- where the calls before the place of the trial stand
 module _ (r : tie.After-rows-end) where
@@ -43,7 +44,7 @@ module _ (r : tie.After-rows-end) where
 write-trial-requires : tie.Need-write-trial-requires
 write-trial-requires c κs =
     let r = c .before in
-    omega (arith, fine (start r) .limits .small, fine (start r) .trial-counted, size (start r))
+    omega (arith, fine (start r) .limits .small, fine (start r) .trial .count, size (start r))
 
 -- and before the place of the end
 module _ (z : tie.After-trial-size) where

@@ -4,7 +4,7 @@ use mathlib.Core.Path.{_≡_}
 use mathlib.Core.Bool.{true, false}
 use lib.Dec.{leb}
 use borrow.Author.Tests.{le-leb, lt-leb}
-use Rattle.casefile.specs.Case.{mostTanks, mostExponent}
+use Rattle.limits.specs.Limits.{mostTanks, mostExponent}
 use Rattle.casefile.proofs.head_fine.Statement.{statement}
 use Rattle.casefile.proofs.head_fine.Tie as tie
 

@@ -10,6 +10,7 @@ use lib.IntN.{ℤ, pos, _*ℤ_}
 use mir.Syntax.{w16}
 use mir.Val.{SFits}
 use mir.Facts.{toZ-ofZ}
+use Rattle.limits.specs.Limits.{mostTanks, mostCoefficients}
 use Rattle.integers.specs.Size.{at-most, bounds, product-ok, size-sfits, sfits-by}
 use Rattle.integers.specs.Signed.{wide-fits, wide-is}
 use Rattle.integers.specs.Tables.{fill, fill-none, fill-next, Within, zeros-within, within-set}
@@ -28,12 +29,12 @@ abbrev μ-loop : tie.MeasureT-loop
 loop-holds : tie.Need-loop-holds Inv-loop μ-loop
 loop-holds c = (
   omega arith,
-  rw (c .pre .2) (zeros-within 8),
+  rw (c .pre .2) (zeros-within mostTanks),
   c .pre .2 ∙ sym (fill-none (scaled (c .args .n) (c .args .coefficients .now) (c .args .i)) 0 0 zero-row (omega arith)),
 )
 
 -- the index of a coefficient
-in-turn : (c : tie.In-loop Inv-loop μ-loop) → c .before .before .args .i * c .before .before .args .n + c .before .loop .j < 64
+in-turn : (c : tie.In-loop Inv-loop μ-loop) → c .before .before .args .i * c .before .before .args .n + c .before .loop .j < mostCoefficients
 in-turn c = let s = c .before .before in omega (arith, mul-le-mul {n₁ = s .args .i} {n₂ = 7} (omega arith) (s .pre .0))
 
 mul-row : tie.Need-mul-row Inv-loop μ-loop

@@ -6,6 +6,7 @@ use Prim.Native.Nat.{ℕ, _-_, _≤_}
 use native.Mathlib.Omega.{arith}
 use lib.ListN.{set, getD-replicate}
 use lib.IntN.{ℤ}
+use Rattle.limits.specs.Limits.{mostTanks}
 use Rattle.integers.specs.Tables.{all-set-at, fill, fill-none, fill-next, fill-left, Within, AllWithin, all-zeros-within}
 use Rattle.elimination.specs.Steps.{working-row, working}
 use Rattle.elimination.specs.Conditions.{bound}
@@ -22,7 +23,7 @@ abbrev μ-loop : tie.MeasureT-loop
 loop-holds : tie.Need-loop-holds Inv-loop μ-loop
 loop-holds c = (
   omega arith,
-  rw (c .pre .1) (all-zeros-within 8 8),
+  rw (c .pre .1) (all-zeros-within mostTanks mostTanks),
   c .pre .1 ∙ sym (fill-none (working-row (c .args .n) (c .args .coefficients .now)) 0 0 zero-rows (omega arith)),
 )
 
@@ -40,7 +41,7 @@ fill-row-requires c κs =
       omega arith,
       omega arith,
       rw (d .loop .inv .2)
-          (fill-left (working-row (s .n) (s .coefficients .now)) 0 i zero-rows (omega arith) [] ∙ getD-replicate 8 i zero-row [] (omega arith)),
+          (fill-left (working-row (s .n) (s .coefficients .now)) 0 i zero-rows (omega arith) [] ∙ getD-replicate mostTanks i zero-row [] (omega arith)),
     )
 
 add-i : tie.Need-add-i Inv-loop μ-loop

@@ -8,40 +8,23 @@ use lib.Seq.{sets-eq}
 use denote.Ref.{now}
 use Rattle.bigendian.specs.Number.{bytes}
 use Rattle.buffer.specs.Laws.{then}
+use Rattle.fields.specs.Field.{lengthSize}
 use borrow.Author.Needs.{needs}
 use Rattle.fields.proofs.write_header.Statement.{statement}
 use Rattle.fields.proofs.write_header.Tie as tie
 
-slice-write-out : tie.Need-slice-write-out
-slice-write-out c = search needs
-
-sub-write-u16 : tie.Need-sub-write-u16
-sub-write-u16 c = simp length-set (omega arith)
-
-part-write-u16-start : tie.Need-part-write-u16-start
-part-write-u16-start c = simp length-set (omega arith)
-
-part-write-u16-end : tie.Need-part-write-u16-end
-part-write-u16-end c = search needs
-
-write-u16-requires : tie.Need-write-u16-requires
-write-u16-requires c κs = omega (arith, length-set (now (c .before .before .args .out)) 0 (c .before .before .args .tag))
-
-same-length : tie.Need-same-length
-same-length c = omega (arith, length-set (now (c .before .before .before .before .before .args .out)) 0 (c .before .before .before .before .before .args .tag))
-
 returns : tie.Need-returns
 returns c = let a = c .before .before .before .before .before .args in
-    then (now (a .out)) (set (now (a .out)) 0 (a .tag)) (a .tag ∷ []) (bytes 2 (a .len)) 1 (c .before .before .write-u16 .last .0) (sets-eq (a .tag ∷ []) (now (a .out)) 0 (omega arith)) refl (c .before .before .write-u16 .ensures)
+    then (now (a .out)) (set (now (a .out)) 0 (a .tag)) (a .tag ∷ []) (bytes lengthSize (a .len)) 1 _ (sets-eq (a .tag ∷ []) (now (a .out)) 0 (omega arith)) refl (c .before .before .write-u16 .ensures)
 
 pub write-header-spec : {M : Type 1} → statement M
 write-header-spec =
     tie.close
     (tie.spec
-    slice-write-out
-    sub-write-u16
-    part-write-u16-start
-    part-write-u16-end
-    write-u16-requires
-    same-length
+    (λ c. search needs)
+    (λ c. simp length-set (omega arith))
+    (λ c. simp length-set (omega arith))
+    (λ c. search needs)
+    (λ c κs. let a = c .before .before .args in omega (arith, length-set (now (a .out)) 0 (a .tag)))
+    (λ c. let a = c .before .before .before .before .before .args in omega (arith, length-set (now (a .out)) 0 (a .tag)))
     returns)

@@ -36,7 +36,7 @@ read-i16s-spec =
     Inv-loop
     μ-loop
     (λ c. read-begun (omega arith))
-    (λ c κs. let n = read-next (c .before .loop .inv) (c .loop-test .taken) in omega arith)
+    (λ c κs. read-next (c .before .loop .inv) (c .loop-test .taken))
     (λ c. wide-fits w16 tt (c .read-i16 .result) (record { sfits = c .read-i16 .ok }))
     (λ c κs. tt)
     (λ c. omega arith)

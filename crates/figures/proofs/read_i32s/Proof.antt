@@ -36,7 +36,7 @@ read-i32s-spec =
     Inv-loop
     μ-loop
     (λ c. read-begun (omega arith))
-    (λ c κs. let n = read-next (c .before .loop .inv) (c .loop-test .taken) in omega arith)
+    (λ c κs. read-next (c .before .loop .inv) (c .loop-test .taken))
     (λ c. wide-fits w32 tt (c .read-i32 .result) (record { sfits = c .read-i32 .ok }))
     (λ c κs. tt)
     (λ c. omega arith)

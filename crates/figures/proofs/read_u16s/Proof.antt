@@ -33,7 +33,7 @@ read-u16s-spec =
     Inv-loop
     μ-loop
     (λ c. read-begun (omega arith))
-    (λ c κs. let n = read-next (c .before .loop .inv) (c .loop-test .taken) in omega arith)
+    (λ c κs. read-next (c .before .loop .inv) (c .loop-test .taken))
     (λ c. search needs)
     (λ c. omega arith)
     returns

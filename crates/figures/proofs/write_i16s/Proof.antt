@@ -25,7 +25,7 @@ add-p c = let n = run-next (c .before .before .before .before .before .before .l
 
 loop-again : tie.Need-loop-again Inv-loop μ-loop
 loop-again c = let e = rw (toZ-ofZ {w = w16} (record { sfits = c .before .before .before .write-i16-arg2 .given })) at (c .before .before .write-i16 .ensures) in
-    run-turn-lent (c .before .before .before .before .before .before .loop .inv) (c .before .before .before .before .before .loop-test .taken) (length-bytes 2 _) e
+    run-turn-lent (c .before .before .before .before .before .before .loop .inv) (c .before .before .before .before .before .loop-test .taken) (length-bytes _ _) e
 
 pub write-i16s-spec : {M : Type 1} → statement M
 write-i16s-spec =

@@ -25,7 +25,7 @@ add-p c = let n = run-next (c .before .before .before .before .before .before .l
 
 loop-again : tie.Need-loop-again Inv-loop μ-loop
 loop-again c = let e = rw (toZ-ofZ {w = w32} (record { sfits = c .before .before .before .write-i32-arg2 .given })) at (c .before .before .write-i32 .ensures) in
-    run-turn-lent (c .before .before .before .before .before .before .loop .inv) (c .before .before .before .before .before .loop-test .taken) (length-bytes 4 _) e
+    run-turn-lent (c .before .before .before .before .before .before .loop .inv) (c .before .before .before .before .before .loop-test .taken) (length-bytes _ _) e
 
 pub write-i32s-spec : {M : Type 1} → statement M
 write-i32s-spec =

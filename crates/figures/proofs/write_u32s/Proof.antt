@@ -21,7 +21,7 @@ add-p c = let n = run-next (c .before .before .before .before .before .before .l
     omega (arith, c .before .before .before .before .before .before .before .before .before .good, c .before .before .before .before .before .before .loop .inv .same)
 
 loop-again : tie.Need-loop-again Inv-loop μ-loop
-loop-again c = run-turn-lent (c .before .before .before .before .before .before .loop .inv) (c .before .before .before .before .before .loop-test .taken) (length-bytes 4 _) (c .before .before .write-u32 .ensures)
+loop-again c = run-turn-lent (c .before .before .before .before .before .before .loop .inv) (c .before .before .before .before .before .loop-test .taken) (length-bytes _ _) (c .before .before .write-u32 .ensures)
 
 pub write-u32s-spec : {M : Type 1} → statement M
 write-u32s-spec =

@@ -8,6 +8,7 @@ use mir.Syntax.{w64}
 use mir.Val.{SFits}
 use mir.Facts.{toZ-ofZ}
 use borrow.Author.Needs.{needs}
+use Rattle.limits.specs.Limits.{mostTanks}
 use Rattle.fractions.specs.Greatest.{first-greatest-below}
 use Rattle.judge.specs.Judgement.{deciding-place}
 use Rattle.judge.specs.Laws.{conclusion}
@@ -22,8 +23,8 @@ module _ (c : tie.After-greatest-factor) where
   unfolding deciding-place
   place-is = c .greatest-factor .ensures
 
-  place : c .greatest-factor .result < 8
-  place = rw (c .greatest-factor .ensures) (first-greatest-below _ (begun .args .n) 8 (begun .pre) (omega arith))
+  place : c .greatest-factor .result < mostTanks
+  place = rw (c .greatest-factor .ensures) (first-greatest-below _ (begun .args .n) mostTanks (begun .pre) (omega arith))
 
 greatest-factor-requires : tie.Need-greatest-factor-requires
 greatest-factor-requires c κs = search needs

@@ -6,6 +6,7 @@ use native.Mathlib.Omega.{arith}
 use lib.IntN.{ℤ}
 use borrow.Author.Needs.{needs}
 use Rattle.judge.specs.System.{reach, system, row, trial as trialOf}
+use Rattle.limits.specs.Limits.{mostTanks}
 use Rattle.integers.specs.Tables.{row-inside}
 use Rattle.judge.specs.Places.{Rewriting, rewriting-begun, rewriting-turn, rewriting-ended}
 use Rattle.judge.proofs.fill_reaches.Statement.{statement}
@@ -27,7 +28,7 @@ loop-holds c = rewriting-begun
 
 mul-row-reach : tie.Need-mul-row-reach Inv-loop μ-loop
 mul-row-reach c =
-    omega (arith, row-inside (c .before .before .args .n) (c .before .loop .i) (c .before .before .pre .0) (omega arith))
+    omega (arith, row-inside mostTanks (c .before .before .args .n) (c .before .loop .i) (c .before .before .pre .0) (omega arith))
 
 mul-row-reach-2 : tie.Need-mul-row-reach-2 Inv-loop μ-loop
 mul-row-reach-2 c = search needs
@@ -38,7 +39,7 @@ element-copy-out-row-reach c = search needs
 row-reach-requires : tie.Need-row-reach-requires Inv-loop μ-loop
 row-reach-requires c κs =
     let g = c .before .before .before in
-    (g .pre .0, row-inside (g .args .n) (c .before .before .loop .i) (g .pre .0) (omega arith))
+    (g .pre .0, row-inside mostTanks (g .args .n) (c .before .before .loop .i) (g .pre .0) (omega arith))
 
 mul-reaches : tie.Need-mul-reaches Inv-loop μ-loop
 mul-reaches c = search needs

@@ -11,6 +11,7 @@ use mir.Val.{SFits}
 use mir.Facts.{toZ-ofZ}
 use borrow.Author.Needs.{needs}
 use Rattle.judge.specs.System.{residual, system, row, trial as trialOf}
+use Rattle.limits.specs.Limits.{mostTanks}
 use Rattle.integers.specs.Tables.{row-inside}
 use Rattle.judge.specs.Places.{Rewriting, rewriting-begun, rewriting-turn, rewriting-ended}
 use Rattle.judge.proofs.fill_residuals.Statement.{statement}
@@ -32,7 +33,7 @@ loop-holds c = rewriting-begun
 
 mul-row-residual : tie.Need-mul-row-residual Inv-loop μ-loop
 mul-row-residual c =
-    omega (arith, row-inside (c .before .before .args .n) (c .before .loop .i) (c .before .before .pre .0) (omega arith))
+    omega (arith, row-inside mostTanks (c .before .before .args .n) (c .before .loop .i) (c .before .before .pre .0) (omega arith))
 
 mul-row-residual-2 : tie.Need-mul-row-residual-2 Inv-loop μ-loop
 mul-row-residual-2 c = search needs
@@ -43,7 +44,7 @@ element-copy-out-row-residual c = search needs
 row-residual-requires : tie.Need-row-residual-requires Inv-loop μ-loop
 row-residual-requires c κs =
     let g = c .before .before .before in
-    (g .pre .0, omega (arith, row-inside (g .args .n) (c .before .before .loop .i) (g .pre .0) (omega arith)))
+    (g .pre .0, omega (arith, row-inside mostTanks (g .args .n) (c .before .before .loop .i) (g .pre .0) (omega arith)))
 
 mul-t15 : tie.Need-mul-t15 Inv-loop μ-loop
 mul-t15 c = search needs

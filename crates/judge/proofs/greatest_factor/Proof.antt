@@ -11,6 +11,7 @@ use mir.Syntax.{w64}
 use mir.Val.{SFits}
 use mir.Facts.{toZ-ofZ}
 use borrow.Author.Needs.{needs}
+use Rattle.limits.specs.Limits.{mostTanks}
 use Rattle.fractions.specs.Fraction.{Fraction, order}
 use Rattle.fractions.specs.Greatest.{is-greater, first-greatest, first-greatest-none, first-greatest-one, first-greatest-next}
 use Rattle.judge.specs.Judgement.{factor}
@@ -22,7 +23,7 @@ factors residuals reaches i = factor (getD residuals i (pos 0)) (getD reaches i 
 
 abbrev Inv-loop : tie.InvT-loop
 Inv-loop n residuals reaches best₀ i₀ best i =
-    (1 ≤ i) × (i ≤ max 1 n) × (best < 8) × (best ≡ first-greatest (factors residuals reaches) i)
+    (1 ≤ i) × (i ≤ max 1 n) × (best < mostTanks) × (best ≡ first-greatest (factors residuals reaches) i)
 
 abbrev μ-loop : tie.MeasureT-loop
 μ-loop n residuals reaches best₀ i₀ best i = n - i

@@ -8,6 +8,7 @@ use mir.Syntax.{w64}
 use mir.Val.{SFits}
 use mir.Facts.{toZ-ofZ}
 use borrow.Author.Needs.{needs}
+use Rattle.limits.specs.Limits.{mostTanks}
 use Rattle.fractions.specs.Greatest.{first-greatest-below}
 use Rattle.judge.specs.declared.Standing.{Standing}
 use Rattle.judge.specs.System.{System, Trial, system, trial}
@@ -51,8 +52,8 @@ module _ (c : tie.After-greatest-factor) where
   unfolding deciding-place
   place-is = c .greatest-factor .ensures
 
-  place : c .greatest-factor .result < 8
-  place = rw (c .greatest-factor .ensures) (first-greatest-below _ n′ 8 (begun .pre) (omega arith))
+  place : c .greatest-factor .result < mostTanks
+  place = rw (c .greatest-factor .ensures) (first-greatest-below _ n′ mostTanks (begun .pre) (omega arith))
 
 fill-residuals-requires : tie.Need-fill-residuals-requires
 fill-residuals-requires c κs = (c .before .pre, zero-cleared (pos 0) (c .before .args .n))

@@ -4,6 +4,7 @@ use Prim.Native.Nat.{_+_, _*_, _≤_}
 use native.Mathlib.Omega.{arith}
 use lib.ListN.{length}
 use borrow.Author.Needs.{needs}
+use Rattle.limits.specs.Limits.{mostTanks}
 use Rattle.decimal.specs.BufferLaws.{wrote-then, wrote-last}
 use Rattle.report.specs.Text.{text, answer-room, row-room, factor-room}
 use Rattle.report.proofs.write_text.Statement.{statement}
@@ -13,7 +14,7 @@ module _ (v : tie.After-write-verdict-line) where
   abbrev start : tie.Start
   start = v .before .before .before .before .before
 
-  after-verdict : v .write-verdict-line .result + (8 * answer-room + (8 * row-room + factor-room)) ≤ length (v .write-verdict-line .last .1 .1 .1 .1 .0)
+  after-verdict : v .write-verdict-line .result + (mostTanks * answer-room + (mostTanks * row-room + factor-room)) ≤ length (v .write-verdict-line .last .1 .1 .1 .1 .0)
   after-verdict =
       omega (arith, v .write-verdict-line .ensures .short, v .write-verdict-line .ensures .wrote .place, v .write-verdict-line .kept, start .pre .1 .1)
 
@@ -21,7 +22,7 @@ module _ (a : tie.After-write-answers) where
   abbrev verdict : tie.After-write-verdict-line
   verdict = a .before .before .before .before
 
-  after-answers : a .write-answers .result + (8 * row-room + factor-room) ≤ length (a .write-answers .last .1 .1 .1 .1 .0)
+  after-answers : a .write-answers .result + (mostTanks * row-room + factor-room) ≤ length (a .write-answers .last .1 .1 .1 .1 .0)
   after-answers =
       omega (arith, a .write-answers .ensures .short, a .write-answers .ensures .wrote .place, a .write-answers .kept, start verdict .pre .0, after-verdict verdict)
 

@@ -9,11 +9,13 @@ use lib.Seq.{drop-drop}
 use lib.IntN.{ℤ}
 use denote.Ref.{now}
 use borrow.Author.Tests.{not-true, not-false}
-use Rattle.figures.specs.Figures.{Kind, u16, i32, u32, within, upTo, figures, all, Answered}
+use Rattle.figures.specs.Figures.{Kind, u16, i32, u32, within, upTo, figures, all, RunAnswered}
 use Rattle.figures.specs.LoopLaws.{no}
-use Rattle.casefile.specs.Case.{coefficientLimit, toleranceLimit, rightSideLimit, rightToleranceLimit}
-use Rattle.casefile.specs.Layout.{Row, rowMade, tolerancesAt, rightSideAt, rightToleranceAt}
-use Rattle.casefile.specs.Decode.{rowOf, rowFine}
+use Rattle.limits.specs.Limits.{coefficientLimit, toleranceLimit, rightSideLimit, rightToleranceLimit}
+use Rattle.casefile.specs.Block.{Block, block}
+use Rattle.casefile.specs.Case.{rowsFine}
+use Rattle.casefile.specs.Layout.{tolerancesAt, rightSideAt, rightToleranceAt}
+use Rattle.casefile.specs.Decode.{rowOf}
 use Rattle.casefile.specs.RowLaws.{at-right-side, at-right-tolerance}
 use borrow.Author.Needs.{needs}
 use Rattle.row_reader.proofs.read_figures.Statement.{statement}
@@ -23,27 +25,23 @@ module _ (n : ℕ) (v : List ℕ) where
   fine-is : {b1 b2 b3 b4 : Bool}
       → b1 ≡ all (within coefficientLimit) (rowOf n v .coefficients)
       → b2 ≡ all (upTo toleranceLimit) (rowOf n v .tolerances)
-      → b3 ≡ all (within rightSideLimit) (rowOf n v .right-side)
-      → b4 ≡ all (upTo rightToleranceLimit) (rowOf n v .right-tolerance)
-      → (b1 && (b2 && (b3 && b4))) ≡ rowFine (rowOf n v)
-  unfolding rowFine
+      → b3 ≡ all (within rightSideLimit) (rowOf n v .right-sides)
+      → b4 ≡ all (upTo rightToleranceLimit) (rowOf n v .right-tolerances)
+      → (b1 && (b2 && (b3 && b4))) ≡ rowsFine (rowOf n v)
+  unfolding rowsFine
   fine-is e1 e2 e3 e4 = rw (e1, e2, e3, e4)
 
   made-is : {a : List ℤ} {t : List ℕ} {b : List ℤ} {f : List ℕ}
       → a ≡ rowOf n v .coefficients
       → t ≡ rowOf n v .tolerances
-      → b ≡ rowOf n v .right-side
-      → f ≡ rowOf n v .right-tolerance
-      → rowMade a t b f ≡ rowOf n v
+      → b ≡ rowOf n v .right-sides
+      → f ≡ rowOf n v .right-tolerances
+      → block a t b f ≡ rowOf n v
   made-is e1 e2 e3 e4 = rw (e1, e2, e3, e4)
-
--- what a run of figures gives of the row
-abbrev Run : {X : Type 0} → (X → Bool) → List X → Bool → List X → Type 0
-Run f l r exit = Answered true (all f l) l r exit
 
 -- read at a place behind the value's front
 run : {X : Type 0} (k : Kind X) (f : X → Bool) (s v : List ℕ) (at p q m n : ℕ) {exit : List X} {r : Bool} → p ≡ q → drop q (drop at s) ≡ v → m ≡ n
-    → Run f (figures k m (drop (at + p) s)) r exit → Run f (figures k n v) r exit
+    → RunAnswered f (figures k m (drop (at + p) s)) r exit → RunAnswered f (figures k n v) r exit
 run k f s v at p q m n e d g h = rw (e, ← (drop-drop q at s), d, g) at h
 
 -- ---- the four runs, each where it has been read
@@ -64,10 +62,10 @@ module _ (c : tie.After-read-i16s) where
   abbrev n : ℕ
   n = length (now (start .args .a))
 
-  abbrev row : Row
+  abbrev row : Block
   row = rowOf n (drop at s)
 
-  coefficients : Run (within coefficientLimit) (row .coefficients) (c .read-i16s .result) (c .read-i16s .last .1 .1 .1 .0)
+  coefficients : RunAnswered (within coefficientLimit) (row .coefficients) (c .read-i16s .result) (c .read-i16s .last .1 .1 .1 .0)
   unfolding rowOf
   coefficients = c .read-i16s .ensures
 
@@ -78,10 +76,10 @@ module _ (c : tie.After-read-u16s) where
   first-passed : first .read-i16s .result ≡ true
   first-passed = not-false _ (c .before .before .if1 .left)
 
-  tolerances : Run (upTo toleranceLimit) (row first .tolerances) (c .read-u16s .result) (c .read-u16s .last .1 .1 .1 .0)
+  tolerances : RunAnswered (upTo toleranceLimit) (row first .tolerances) (c .read-u16s .result) (c .read-u16s .last .1 .1 .1 .0)
   unfolding rowOf
   tolerances =
-      run u16 _ (s first) _ (at first) _ (tolerancesAt (n first)) _ _ (places first .before .before .tolerances-at .ensures) refl (start first .pre .1 .lt) (c .read-u16s .ensures)
+      run u16 _ (s first) _ (at first) _ (tolerancesAt (n first)) _ _ (places first .before .before .tolerances-at .ensures) refl (start first .pre .1 .counts .lt) (c .read-u16s .ensures)
 
 module _ (c : tie.After-read-i32s) where
   abbrev second : tie.After-read-u16s
@@ -90,11 +88,11 @@ module _ (c : tie.After-read-i32s) where
   second-passed : second .read-u16s .result ≡ true
   second-passed = not-false _ (c .before .before .if2 .left)
 
-  right-side : let w = first second in Run (within rightSideLimit) (row w .right-side) (c .read-i32s .result) (c .read-i32s .last .1 .1 .1 .0)
+  right-side : let w = first second in RunAnswered (within rightSideLimit) (row w .right-sides) (c .read-i32s .result) (c .read-i32s .last .1 .1 .1 .0)
   unfolding rowOf
   right-side =
       let w = first second in
-      run i32 _ (s w) _ (at w) _ (rightSideAt (n w)) _ _ (places w .before .right-side-at .ensures) (at-right-side (n w) _) (start w .pre .1 .lb) (c .read-i32s .ensures)
+      run i32 _ (s w) _ (at w) _ (rightSideAt (n w)) _ _ (places w .before .right-side-at .ensures) (at-right-side (n w) _) (start w .pre .1 .counts .lb) (c .read-i32s .ensures)
 
 module _ (c : tie.After-read-u32s) where
   abbrev third : tie.After-read-i32s
@@ -103,11 +101,11 @@ module _ (c : tie.After-read-u32s) where
   third-passed : third .read-i32s .result ≡ true
   third-passed = not-false _ (c .before .before .if3 .left)
 
-  right-tolerance : let w = first (second third) in Run (upTo rightToleranceLimit) (row w .right-tolerance) (c .read-u32s .result) (c .read-u32s .last .1 .1 .1 .0)
+  right-tolerance : let w = first (second third) in RunAnswered (upTo rightToleranceLimit) (row w .right-tolerances) (c .read-u32s .result) (c .read-u32s .last .1 .1 .1 .0)
   unfolding rowOf
   right-tolerance =
       let w = first (second third) in
-      run u32 _ (s w) _ (at w) _ (rightToleranceAt (n w)) _ _ (places w .right-tolerance-at .ensures) (at-right-tolerance (n w) _) (start w .pre .1 .lf) (c .read-u32s .ensures)
+      run u32 _ (s w) _ (at w) _ (rightToleranceAt (n w)) _ _ (places w .right-tolerance-at .ensures) (at-right-tolerance (n w) _) (start w .pre .1 .counts .lf) (c .read-u32s .ensures)
 
 -- ---- the answers
 

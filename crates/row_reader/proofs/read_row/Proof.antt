@@ -2,16 +2,16 @@
 -- Assumes nothing.
 use Prim.Native.Nat.{_+_, _≤_}
 use native.Mathlib.Omega.{arith}
-use mathlib.Core.Path.{_≡_, refl, sym, _∙_}
+use mathlib.Core.Path.{_≡_}
 use lib.ListN.{length, drop}
 use denote.Ref.{now}
 use Rattle.outcome.specs.declared.Refusal.the-variants.{OutsideLimits}
 use Rattle.outcome.specs.declared.Status.the-variants.{Accepted}
-use Rattle.outcome.specs.Laws.{stops, goes-on, not-both}
 use Rattle.fields.specs.Field.{fieldStatus}
 use Rattle.fields.specs.FieldLaws.{field-room-at, value-at}
 use Rattle.casefile.specs.Layout.{rowTag, rowLength, rowSize}
 use Rattle.casefile.specs.Decode.{rowStatus}
+use Rattle.casefile.specs.AnswerLaws.{answer-stops, answer-goes-on}
 use borrow.Author.Needs.{needs}
 use Rattle.row_reader.proofs.read_row.Statement.{statement}
 use Rattle.row_reader.proofs.read_row.Tie as tie
@@ -29,12 +29,7 @@ module _ (k : tie.After-check-field) where
 
 returns : tie.Need-returns
 unfolding rowStatus
-returns c = let told = c .enum-told .given .1 in
-    record { status = stops _ (checked (c .before .before)) told; made = λ e. not-both _ _ told e }
-
-add-read-figures : tie.Need-add-read-figures
-add-read-figures c = let k = c .before .before in
-    omega (arith, start k .good, room k (c .enum-told2 .given .1))
+returns c = answer-stops (checked (c .before .before)) _ (c .enum-told .given .1)
 
 read-figures-requires : tie.Need-read-figures-requires
 read-figures-requires c κs = let k = c .before .before .before .before .before .before in
@@ -42,21 +37,11 @@ read-figures-requires c κs = let k = c .before .before .before .before .before 
 
 returns-2 : tie.Need-returns-2
 unfolding rowStatus
-returns-2 c = let k = c .before .before .before .before .before .before .before .before .before .before .before .before .before .before in
-    let q = rw (start k .pre .la, value-at (now (start k .args .s)) (start k .args .at)) at (c .before .before .before .before .before .before .before .read-figures .ensures) in
-    record {
-      status = goes-on OutsideLimits (checked k) (c .before .before .before .before .before .before .before .before .before .before .before .before .enum-told2 .given .1) (sym (q .status) ∙ c .if1 .taken);
-      made = λ _. q .made (c .if1 .taken);
-    }
-
-returns-3 : tie.Need-returns-3
-unfolding rowStatus
-returns-3 c = let k = c .before .before .before .before .before .before .before .before .before .before .before .before .before .before in
-    let q = rw (start k .pre .la, value-at (now (start k .args .s)) (start k .args .at)) at (c .before .before .before .before .before .before .before .read-figures .ensures) in
-    record {
-      status = goes-on OutsideLimits (checked k) (c .before .before .before .before .before .before .before .before .before .before .before .before .enum-told2 .given .1) (sym (q .status) ∙ c .if1 .left);
-      made = λ e. not-both _ OutsideLimits refl e;
-    }
+returns-2 c =
+    let w = c .before .before .before .before .before .before .before in
+    let k = w .before .before .before .before .before .before .before in
+    let q = rw (start k .pre .counts .la, value-at (now (start k .args .s)) (start k .args .at)) at (w .read-figures .ensures) in
+    answer-goes-on (checked k) OutsideLimits (w .before .before .before .before .before .enum-told2 .given .1) q (c .check .ensures)
 
 pub read-row-spec : {M : Type 1} → statement M
 read-row-spec =
@@ -67,15 +52,11 @@ read-row-spec =
     (λ c. search needs)
     returns
     (λ c. search needs)
-    add-read-figures
+    (λ c. let k = c .before .before in omega (arith, start k .good, room k (c .enum-told2 .given .1)))
     read-figures-requires
+    (λ c κs. search needs)
     (λ c. search needs)
     (λ c. search needs)
     (λ c. search needs)
     (λ c. search needs)
-    returns-2
-    (λ c. search needs)
-    (λ c. search needs)
-    (λ c. search needs)
-    (λ c. search needs)
-    returns-3)
+    returns-2)

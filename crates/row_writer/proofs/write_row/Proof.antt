@@ -2,6 +2,7 @@
 -- Assumes nothing.
 use native.Mathlib.Omega.{arith}
 use denote.Ref.{now}
+use Rattle.casefile.specs.Block.{block}
 use Rattle.row_writer.proofs.Writing.{row-written}
 use borrow.Author.Needs.{needs}
 use Rattle.row_writer.proofs.write_row.Statement.{statement}
@@ -44,7 +45,7 @@ same-length c =
 
 returns : tie.Need-returns
 returns c = let g = start c .args in
-    row-written (now (g .out)) (now (g .a)) (now (g .t)) (now (g .b)) (now (g .f)) (start c .pre .1) _ _ _ _ _ _ _ _ _
+    row-written (now (g .out)) (block (now (g .a)) (now (g .t)) (now (g .b)) (now (g .f))) (start c .pre .1) _ _ _ _ _ _ _ _ _
     (header c .before .row-length .ensures)
     (places c .before .before .tolerances-at .ensures)
     (places c .before .right-side-at .ensures)

@@ -5,14 +5,15 @@ use native.Mathlib.Omega.{arith}
 use borrow.Author.Needs.{needs}
 use lib.ListN.{length}
 use denote.Ref.{now}
+use Rattle.limits.specs.Limits.{mostTanks}
+use Rattle.casefile.specs.Block.{block, Room}
 use Rattle.casefile.specs.Layout.{rowSize}
-use Rattle.casefile.specs.RowsLaws.{NextRow}
 use Rattle.row_writer.proofs.Writing.{Writing, begun, next, row-room, row-lists, turn, ended}
 use Rattle.row_writer.proofs.write_rows.Statement.{statement}
 use Rattle.row_writer.proofs.write_rows.Tie as tie
 
 abbrev Inv-loop : tie.InvT-loop
-Inv-loop out₀ n a t b f size i₀ from₀ p₀ out i from p = Writing out₀ n a t b f out i from p
+Inv-loop out₀ n a t b f size i₀ from₀ p₀ out i from p = Writing out₀ n (block a t b f) out i from p
 
 abbrev μ-loop : tie.MeasureT-loop
 μ-loop out₀ n a t b f size i₀ from₀ p₀ out i from p = n - i
@@ -23,8 +24,8 @@ module _ (c : tie.In-loop Inv-loop μ-loop) where
   start = c .before .before .before .before .before .before
 
   next-row : let l = c .before .loop in let g = start .args in
-      NextRow (g .n) (l .i) (l .from) (now (g .a)) (now (g .t)) (now (g .b)) (now (g .f)) × (l .p + rowSize (g .n) ≤ length (l .out))
-  next-row = next _ _ _ _ _ _ (c .before .loop .inv) (c .loop-test .taken)
+      (g .n ≤ mostTanks) × Room (l .from + g .n) (l .i + 1) (block (now (g .a)) (now (g .t)) (now (g .b)) (now (g .f))) × (l .p + rowSize (g .n) ≤ length (l .out))
+  next-row = next _ _ _ (c .before .loop .inv) (c .loop-test .taken)
 
 add-p : tie.Need-add-p Inv-loop μ-loop
 add-p c = let w = c .before .before .before .before .before .before .before .before in
@@ -32,7 +33,7 @@ add-p c = let w = c .before .before .before .before .before .before .before .bef
 
 loop-again : tie.Need-loop-again Inv-loop μ-loop
 loop-again c = let w = c .before .before .before .before .before .before .before .before in
-    turn _ _ _ _ _ _ (w .before .loop .inv) (w .loop-test .taken) (w .before .before .row-size .ensures) (c .before .before .write-row .ensures)
+    turn _ _ _ (w .before .loop .inv) (w .loop-test .taken) (w .before .before .row-size .ensures) (c .before .before .write-row .ensures)
 
 pub write-rows-spec : {M : Type 1} → statement M
 write-rows-spec =
@@ -41,7 +42,7 @@ write-rows-spec =
     Inv-loop
     μ-loop
     (λ c κs. search needs)
-    (λ c. begun _ _ _ _ _ _ (c .before .before .before .before .pre .0) (c .before .before .before .before .pre .1))
+    (λ c. begun _ _ _ (c .before .before .before .before .pre .0) (c .before .before .before .before .pre .1))
     (λ c. omega (arith, next-row c, start c .good))
     (λ c. omega (arith, next-row c, start c .good))
     (λ c. omega (arith, next-row c, start c .good))
@@ -63,9 +64,9 @@ write-rows-spec =
     (λ c. omega (arith, next-row (c .before .before .before .before), start (c .before .before .before .before) .good))
     (λ c. omega (arith, next-row (c .before .before .before .before), start (c .before .before .before .before) .good))
     (λ c. omega (arith, next-row (c .before .before .before .before), start (c .before .before .before .before) .good))
-    (λ c κs. let w = c .before .before .before .before .before in (row-room _ _ _ _ _ _ (w .before .loop .inv) (w .loop-test .taken), row-lists _ _ _ _ _ _ (w .before .loop .inv) (w .loop-test .taken)))
+    (λ c κs. let w = c .before .before .before .before .before in (row-room _ _ _ (w .before .loop .inv) (w .loop-test .taken), row-lists _ _ _ (w .before .loop .inv) (w .loop-test .taken)))
     add-p
     (λ c. omega (arith, c .before .before .before .before .before .before .before .before .loop-test .taken))
     loop-again
     (λ c. omega (arith, c .before .loop .inv .running .same))
-    (λ c. ended _ _ _ _ _ _ (c .before .loop .inv) (c .loop-test .left)))
+    (λ c. ended _ _ _ (c .before .loop .inv) (c .loop-test .left)))

@@ -8,12 +8,13 @@ use lib.IntN.{pos}
 use mir.Syntax.{w64}
 use mir.Val.{toZ, ofZ}
 use mir.Facts.{toZ-ofZ}
+use Rattle.limits.specs.Limits.{mostTanks}
 use Rattle.integers.specs.Tables.{filled, filled-more}
 use Rattle.solver.proofs.order_figures.Statement.{statement}
 use Rattle.solver.proofs.order_figures.Tie as tie
 
 abbrev Inv-loop : tie.InvT-loop
-Inv-loop n figures order z₀ i₀ z i = (i ≤ n) × (z ≡ filled 8 i (pos 0) (λ k. getD figures (getD order k 0) (pos 0)))
+Inv-loop n figures order z₀ i₀ z i = (i ≤ n) × (z ≡ filled mostTanks i (pos 0) (λ k. getD figures (getD order k 0) (pos 0)))
 
 abbrev μ-loop : tie.MeasureT-loop
 μ-loop n figures order z₀ i₀ z i = n - i
@@ -57,7 +58,7 @@ loop-again c =
     let o = d .before .args .order .now in
     let v = getD f (getD o (d .loop .i) 0) (pos 0) in
     let e : toZ w64 (ofZ w64 v) ≡ v = toZ-ofZ {w = w64} (record { sfits = c .z .given }) in
-    (omega arith, rw (e, d .loop .inv .1) (filled-more (pos 0) (λ k. getD f (getD o k 0) (pos 0)) 8 (d .loop .i) (omega arith)))
+    (omega arith, rw (e, d .loop .inv .1) (filled-more (pos 0) (λ k. getD f (getD o k 0) (pos 0)) mostTanks (d .loop .i) (omega arith)))
 
 returns : tie.Need-returns Inv-loop μ-loop
 returns c =

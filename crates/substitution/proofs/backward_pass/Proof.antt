@@ -10,6 +10,7 @@ use lib.IntN.{ℤ, pos, natAbs}
 use mir.Syntax.{w64}
 use mir.Val.{toZ, ofZ}
 use mir.Facts.{toZ-ofZ}
+use Rattle.limits.specs.Limits.{mostTanks}
 use Rattle.integers.specs.Size.{sfits-size}
 use Rattle.integers.specs.Tables.{Within, zeros-within, within-set}
 use Rattle.substitution.specs.Passes.{correction-at, correction-limit, backward-from, backward}
@@ -61,7 +62,7 @@ value-size c = c .magnitude .ensures ∙ ap natAbs (read-value (c .before))
 
 loop-holds : tie.Need-loop-holds Inv-loop μ-loop
 unfolding backward
-loop-holds c = rw (c .pre .1) (omega arith, zeros-within 8, refl)
+loop-holds c = rw (c .pre .1) (omega arith, zeros-within mostTanks, refl)
 
 sub-i : tie.Need-sub-i Inv-loop μ-loop
 sub-i c = omega arith

@@ -1,0 +1,20 @@
+-- What the check of a field and the test of its value answer together. Assumes nothing.
+use mathlib.Core.Path.{_≡_, sym, _∙_}
+use mathlib.Core.Bool.{Bool, true}
+use Rattle.outcome.specs.declared.Refusal.{Refusal}
+use Rattle.outcome.specs.declared.Status.{Status}
+use Rattle.outcome.specs.declared.Status.the-variants.{Accepted, Refused}
+use Rattle.outcome.specs.Outcome.{check, first}
+use Rattle.outcome.specs.Laws.{stops, goes-on, not-both, check-accepted}
+use Rattle.figures.specs.Figures.{Answered}
+
+module _ {A : Type 0} {value out : A} {x s : Status} (e : x ≡ s) where
+  -- the field is refused
+  pub answer-stops : (t : Status) {q : Refusal} → x ≡ Refused q → Answered Accepted (first s t) value x out
+  answer-stops t g = record { status = stops t e g; made = λ h. not-both _ _ g h }
+
+  -- it is not, and the test of its value passed or failed
+  pub answer-goes-on : (r : Refusal) {due passed : Bool} {status : Status} → x ≡ Accepted → Answered true due value passed out → status ≡ check passed r
+      → Answered Accepted (first s (check due r)) value status out
+  answer-goes-on r {passed = passed} g w h =
+      record { status = h ∙ goes-on r e g (sym (w .status)); made = λ y. w .made (check-accepted passed r (sym h ∙ y)) }

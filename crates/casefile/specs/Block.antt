@@ -1,0 +1,80 @@
+-- Blocks of rows: their parts, their rows, and how many figures they have. Definitions only.
+use Prim.Native.Nat.{ℕ, zero, suc, _*_, _≤_}
+use mathlib.Core.List.{List, [], _∷_, _++_}
+use mathlib.Core.Path.{_≡_}
+use lib.ListN.{length, take, drop}
+use lib.IntN.{ℤ}
+use Rattle.limits.specs.Limits.{mostTanks}
+use Rattle.buffer.specs.Buffer.{onto}
+
+-- a block of rows: document 01's A, E, b and f, row after row. A row is a block of one
+pub record Block : Type 0 where
+  pub coefficients : List ℤ
+  pub tolerances : List ℕ
+  pub right-sides : List ℤ
+  pub right-tolerances : List ℕ
+
+abbrev pub block : List ℤ → List ℕ → List ℤ → List ℕ → Block
+block a t b f = record { coefficients = a; tolerances = t; right-sides = b; right-tolerances = f }
+
+-- the same done to each list: with k to the coefficients and tolerances, with m to the right sides and theirs
+abbrev pub each : ((X : Type 0) → ℕ → List X → List X) → ℕ → ℕ → Block → Block
+each g k m r = block (g ℤ k (r .coefficients)) (g ℕ k (r .tolerances)) (g ℤ m (r .right-sides)) (g ℕ m (r .right-tolerances))
+
+-- the first figures, and those behind them
+abbrev pub front : ℕ → ℕ → Block → Block
+front k m r = each (λ X. take) k m r
+
+abbrev pub behind : ℕ → ℕ → Block → Block
+behind k m r = each (λ X. drop) k m r
+
+-- two blocks put together list by list: one behind the other, and one over the other's front
+abbrev pub paired : ((X : Type 0) → List X → List X → List X) → Block → Block → Block
+paired g r s =
+    block
+    (g ℤ (r .coefficients) (s .coefficients))
+    (g ℕ (r .tolerances) (s .tolerances))
+    (g ℤ (r .right-sides) (s .right-sides))
+    (g ℕ (r .right-tolerances) (s .right-tolerances))
+
+abbrev pub stacked : Block → Block → Block
+stacked r s = paired (λ X. _++_) r s
+
+abbrev pub over : Block → Block → Block
+over r s = paired (λ X. onto) r s
+
+-- the first m rows of a block, n tanks each
+unfoldable pub split : ℕ → ℕ → Block → List Block
+split n zero r = []
+split n (suc m) r = front n 1 r ∷ split n m (behind n 1 r)
+
+-- rows one after another as one block
+abbrev pub together : List Block → Block
+together [] = block [] [] [] []
+together (r ∷ rs) = stacked r (together rs)
+
+-- ---- how many figures
+
+-- k coefficients and tolerances, m right sides and their tolerances
+pub record Counts (k m : ℕ) (r : Block) : Type 0 where
+  pub la : length (r .coefficients) ≡ k
+  pub lt : length (r .tolerances) ≡ k
+  pub lb : length (r .right-sides) ≡ m
+  pub lf : length (r .right-tolerances) ≡ m
+
+-- room for so many
+pub record Room (k m : ℕ) (r : Block) : Type 0 where
+  pub la : k ≤ length (r .coefficients)
+  pub lt : k ≤ length (r .tolerances)
+  pub lb : m ≤ length (r .right-sides)
+  pub lf : m ≤ length (r .right-tolerances)
+
+-- lists of one row's figures
+pub record RowLists (n : ℕ) (r : Block) : Type 0 where
+  pub small : n ≤ mostTanks
+  pub counts : Counts n 1 r
+
+-- lists that hold the figures of n rows
+pub record RowsRoom (n : ℕ) (r : Block) : Type 0 where
+  pub small : n ≤ mostTanks
+  pub room : Room (n * n) n r

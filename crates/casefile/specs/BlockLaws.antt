@@ -1,0 +1,195 @@
+-- Blocks of rows: what is counted and within its limits stays so in a part and in the whole, and a block is its rows put together.
+-- Assumes nothing.
+use mathlib.Core.Path.{_≡_, refl, ap}
+use mathlib.Core.List.{List, [], _∷_, _++_, append-assoc, append-nil}
+use mathlib.Core.Bool.{Bool, true}
+use Prim.Native.Nat.{ℕ, zero, suc, _+_, _*_, _<_}
+use native.Mathlib.Omega.{arith}
+use native.Mathlib.Nat.{suc-mul, zero-mul, mul-le-mul-right}
+use lib.ListN.{length, take, drop, length-append, length-take, length-drop, take-append-drop}
+use lib.Seq.{take-at, drop-at}
+use lib.IntN.{ℤ}
+use Rattle.buffer.specs.Buffer.{onto}
+use Rattle.buffer.specs.Laws.{holds}
+use Rattle.figures.specs.Figures.{upTo, within, all}
+use Rattle.figures.specs.FigureLaws.{and-true, all-append, all-take, all-drop}
+use Rattle.limits.specs.Limits.{coefficientLimit, toleranceLimit, rightSideLimit, rightToleranceLimit}
+use Rattle.casefile.specs.Block.{Block, Counts, Room, RowsRoom, each, front, behind, paired, stacked, over, split, together}
+use Rattle.casefile.specs.Case.{rowsFine}
+
+-- ---- a list of k figures that pass a test
+
+pub record Sound {X : Type 0} (p : X → Bool) (k : ℕ) (l : List X) : Type 0 where
+  pub count : length l ≡ k
+  pub fine : all p l ≡ true
+
+module _ {X : Type 0} {p : X → Bool} where
+  front-sound : (k j : ℕ) {n : ℕ} {l : List X} → n ≡ k + j → Sound p n l → Sound p k (take k l)
+  front-sound k j {l = l} e s = record { count = simp length-take (omega (arith, s .count)); fine = all-take p k l (s .fine) }
+
+  behind-sound : (k j : ℕ) {n : ℕ} {l : List X} → n ≡ k + j → Sound p n l → Sound p j (drop k l)
+  behind-sound k j {l = l} e s = record { count = simp length-drop (omega (arith, s .count)); fine = all-drop p k l (s .fine) }
+
+  stacked-sound : {k j n : ℕ} {l m : List X} → n ≡ k + j → Sound p k l → Sound p j m → Sound p n (l ++ m)
+  stacked-sound {l = l} {m = m} e s t = record { count = simp length-append (omega (arith, s .count, t .count)); fine = all-append p l m (s .fine) (t .fine) }
+
+  none-sound : {k : ℕ} → k ≡ 0 → Sound p k []
+  unfolding all
+  none-sound e = record { count = omega arith; fine = refl }
+
+  none-left : {k : ℕ} {l : List X} → k ≡ 0 → Sound p k l → [] ≡ l
+  none-left {l = []} e s = refl
+  none-left {l = x ∷ l} e s = absurd (omega (arith, s .count))
+
+-- ---- a block of k coefficients and tolerances, and of m right sides and theirs
+
+pub record SoundBlock (k m : ℕ) (r : Block) : Type 0 where
+  pub a : Sound (within coefficientLimit) k (r .coefficients)
+  pub t : Sound (upTo toleranceLimit) k (r .tolerances)
+  pub b : Sound (within rightSideLimit) m (r .right-sides)
+  pub f : Sound (upTo rightToleranceLimit) m (r .right-tolerances)
+
+pub counts : {k m : ℕ} {r : Block} → SoundBlock k m r → Counts k m r
+counts s = record { la = s .a .count; lt = s .t .count; lb = s .b .count; lf = s .f .count }
+
+pub sound-fine : {k m : ℕ} {r : Block} → SoundBlock k m r → rowsFine r ≡ true
+unfolding rowsFine
+sound-fine s = rw (s .a .fine, s .t .fine, s .b .fine, s .f .fine)
+
+pub sound : {k m : ℕ} {r : Block} → Counts k m r → rowsFine r ≡ true → SoundBlock k m r
+unfolding rowsFine
+sound {r} c h =
+    let w1 = and-true (all (within coefficientLimit) (r .coefficients)) _ h in
+    let w2 = and-true (all (upTo toleranceLimit) (r .tolerances)) _ (w1 .1) in
+    let w3 = and-true (all (within rightSideLimit) (r .right-sides)) _ (w2 .1) in
+    record {
+      a = record { count = c .la; fine = w1 .0 };
+      t = record { count = c .lt; fine = w2 .0 };
+      b = record { count = c .lb; fine = w3 .0 };
+      f = record { count = c .lf; fine = w3 .1 };
+    }
+
+-- ---- two blocks put together
+
+-- what g takes out of two lists put together by c, of which it knows the first one's count, it takes out of two blocks
+each-paired : (g : (X : Type 0) → ℕ → List X → List X) (c p : (X : Type 0) → List X → List X → List X)
+    → ((X : Type 0) (k : ℕ) (l m : List X) → length l ≡ k → g X k (c X l m) ≡ p X l m)
+    → {k m : ℕ} (r s : Block) → Counts k m r → each g k m (paired c r s) ≡ paired p r s
+each-paired g c p h {k} {m} r s e =
+    rw (
+      h ℤ k (r .coefficients) (s .coefficients) (e .la),
+      h ℕ k (r .tolerances) (s .tolerances) (e .lt),
+      h ℤ m (r .right-sides) (s .right-sides) (e .lb),
+      h ℕ m (r .right-tolerances) (s .right-tolerances) (e .lf),
+    )
+
+module _ {k m : ℕ} (r s : Block) (e : Counts k m r) where
+  front-stacked : front k m (stacked r s) ≡ r
+  front-stacked = each-paired (λ X. take) (λ X. _++_) (λ X l m. l) (λ X k l m. take-at l m k) r s e
+
+  behind-stacked : behind k m (stacked r s) ≡ s
+  behind-stacked = each-paired (λ X. drop) (λ X. _++_) (λ X l m. m) (λ X k l m. drop-at l m k) r s e
+
+  pub front-over : front k m (over r s) ≡ r
+  front-over = each-paired (λ X. take) (λ X. onto) (λ X l m. l) (λ X k l m. take-at l (drop (length l) m) k) r s e
+
+  pub room-over : Room k m (over r s)
+  room-over =
+      record {
+        la = holds k (r .coefficients) (s .coefficients) (e .la);
+        lt = holds k (r .tolerances) (s .tolerances) (e .lt);
+        lb = holds m (r .right-sides) (s .right-sides) (e .lb);
+        lf = holds m (r .right-tolerances) (s .right-tolerances) (e .lf);
+      }
+
+-- ---- its rows, n tanks each
+
+pub data Rows (n : ℕ) : List Block → Type 0 where
+  none : Rows n []
+  one : {r : Block} {rs : List Block} → SoundBlock n 1 r → Rows n rs → Rows n (r ∷ rs)
+
+module _ (n : ℕ) where
+  -- what m + 1 rows have, and m rows behind the first
+  more : (m : ℕ) → suc m * n ≡ n + m * n
+  more m = omega (arith, suc-mul m n)
+
+  one-more : (m : ℕ) → suc m ≡ 1 + m
+  one-more m = omega arith
+
+  module _ (m : ℕ) (r : Block) (s : SoundBlock (suc m * n) (suc m) r) where
+    sound-front : SoundBlock n 1 (front n 1 r)
+    sound-front =
+        record {
+          a = front-sound n (m * n) (more m) (s .a);
+          t = front-sound n (m * n) (more m) (s .t);
+          b = front-sound 1 m (one-more m) (s .b);
+          f = front-sound 1 m (one-more m) (s .f);
+        }
+
+    sound-behind : SoundBlock (m * n) m (behind n 1 r)
+    sound-behind =
+        record {
+          a = behind-sound n (m * n) (more m) (s .a);
+          t = behind-sound n (m * n) (more m) (s .t);
+          b = behind-sound 1 m (one-more m) (s .b);
+          f = behind-sound 1 m (one-more m) (s .f);
+        }
+
+  pub split-sound : (m : ℕ) (r : Block) → SoundBlock (m * n) m r → Rows n (split n m r)
+  unfolding split
+  split-sound zero r s = none
+  split-sound (suc m) r s = one (sound-front m r s) (split-sound m (behind n 1 r) (sound-behind m r s))
+
+  pub length-split : (m : ℕ) (r : Block) → length (split n m r) ≡ m
+  unfolding split
+  length-split zero r = refl
+  length-split (suc m) r = ap suc (length-split m (behind n 1 r))
+
+  -- the rows of a block are the block, and the rows that a block was made of are its rows
+  pub together-split : (m : ℕ) (r : Block) → SoundBlock (m * n) m r → together (split n m r) ≡ r
+  unfolding split
+  together-split zero r s =
+      rw (← (none-left (zero-mul n) (s .a)), ← (none-left (zero-mul n) (s .t)), ← (none-left refl (s .b)), ← (none-left refl (s .f)))
+  together-split (suc m) r s =
+      rw (
+        together-split m (behind n 1 r) (sound-behind m r s),
+        take-append-drop n (r .coefficients),
+        take-append-drop n (r .tolerances),
+        take-append-drop 1 (r .right-sides),
+        take-append-drop 1 (r .right-tolerances),
+      )
+
+  pub split-together : {rs : List Block} → Rows n rs → split n (length rs) (together rs) ≡ rs
+  unfolding split
+  split-together none = refl
+  split-together (one {r = r} {rs = rs} s g) = rw (front-stacked r (together rs) (counts s), behind-stacked r (together rs) (counts s), split-together g)
+
+  pub together-sound : {rs : List Block} → Rows n rs → SoundBlock (length rs * n) (length rs) (together rs)
+  together-sound none = record { a = none-sound (zero-mul n); t = none-sound (zero-mul n); b = none-sound refl; f = none-sound refl }
+  together-sound (one {rs = rs} s g) =
+      let w = together-sound g in
+      let e = more (length rs) in
+      let o = one-more (length rs) in
+      record { a = stacked-sound e (s .a) (w .a); t = stacked-sound e (s .t) (w .t); b = stacked-sound o (s .b) (w .b); f = stacked-sound o (s .f) (w .f) }
+
+-- one row more
+pub together-more : (rs : List Block) (r : Block) → together (rs ++ (r ∷ [])) ≡ stacked (together rs) r
+together-more [] r = rw (append-nil (r .coefficients), append-nil (r .tolerances), append-nil (r .right-sides), append-nil (r .right-tolerances))
+together-more (q ∷ rs) r =
+    let w = together rs in
+    rw (
+      together-more rs r,
+      append-assoc (q .coefficients) (w .coefficients) (r .coefficients),
+      append-assoc (q .tolerances) (w .tolerances) (r .tolerances),
+      append-assoc (q .right-sides) (w .right-sides) (r .right-sides),
+      append-assoc (q .right-tolerances) (w .right-tolerances) (r .right-tolerances),
+    )
+
+pub rows-more : {n : ℕ} {rs : List Block} {r : Block} → Rows n rs → SoundBlock n 1 r → Rows n (rs ++ (r ∷ []))
+rows-more none s = one s none
+rows-more (one q g) s = one q (rows-more g s)
+
+-- ---- room for n rows is room for the next
+
+pub next-row : {n i from : ℕ} {r : Block} → RowsRoom n r → from ≡ i * n → i < n → Room (from + n) (i + 1) r
+next-row {n} {i} w e h = omega (arith, w .room, mul-le-mul-right n h, suc-mul i n)
