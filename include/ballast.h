@@ -43,7 +43,7 @@ int64_t ballast_check_case(const uint8_t *input, size_t input_length);
 int64_t ballast_judge_case(const uint8_t *input, size_t input_length, uint8_t *out, size_t out_length);
 
 /* Writes the printed verdict of a case, as the program `verdict` prints it, to the front of out and returns its length; it ends in a line
- * feed, and no zero byte follows. A refused case has a printed verdict too ("refused 6"), so the only refusal is 1, for an out shorter
+ * feed, and no zero byte is written behind it. A refused case has a printed verdict too ("refused 6"), so the only refusal is 1, for an out shorter
  * than BALLAST_TEXT_ROOM. */
 int64_t ballast_verdict_text(const uint8_t *input, size_t input_length, uint8_t *out, size_t out_length);
 

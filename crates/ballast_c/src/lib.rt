@@ -41,7 +41,7 @@ pub extern "C" fn ballast_judge_case(input: &[u8], out: &mut [u8]) -> i64
     result(ballast::judge_case(input, out))
 }
 
-// Renders the printed verdict of a case. A buffer shorter than the longest text is refused before the case is read.
+// Renders the printed verdict of a case. A buffer shorter than TEXT_ROOM is refused before the case is read.
 #[no_mangle]
 pub extern "C" fn ballast_verdict_text(input: &[u8], out: &mut [u8]) -> i64
     ensures { λ r. ⌜ Returned r (now (out .exit)) (text-call (now (input .entry)) (now (out .entry))) ⌝ }

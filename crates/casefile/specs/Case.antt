@@ -1,4 +1,4 @@
--- A case, its limits, and which cases a writer takes.
+-- A case, the tests of its limits, and which cases a writer takes.
 use Prim.Native.Nat.{ℕ, zero, suc, _*_, _≤_}
 use mathlib.Core.Bool.{Bool, _&&_}
 use mathlib.Core.List.{List}

@@ -93,7 +93,7 @@ module _ {X : Type 0} (k : Kind X) where
   after-spread n xs r e = drop-at (spread k xs) r (k .width * n) (length-spread xs ∙ rw e)
 
   module _ (f : X → Bool) (l : Lawful k f) where
-    -- what was (figureBytes k) is read back
+    -- what was written is read back
     pub figures-spread : (n : ℕ) (xs : List X) (r : List ℕ) → length xs ≡ n → all f xs ≡ true → figures k n (spread k xs ++ r) ≡ xs
     unfolding spread all
     figures-spread n xs r e g = rw (← e) (items-back (k .width) (figureAt k) (figureBytes k) (λ xs. all f xs ≡ true) next xs r g)
@@ -112,7 +112,7 @@ module _ {X : Type 0} (k : Kind X) where
               w .1,
             )
 
-    -- what was read is (figureBytes k) back
+    -- what was read is written back
     pub spread-figures : (n : ℕ) (v : List ℕ) → Bytes v → k .width * n ≤ length v → spread k (figures k n v) ++ after k n v ≡ v
     unfolding spread
     spread-figures n v bv h = rw (mul-comm (k .width) n) (items-same (k .width) (figureAt k) (figureBytes k) Ok next n v (bv, h))

@@ -1,4 +1,4 @@
--- The first of the greatest among the first n fractions of a sequence: "the first that has none" and "the first with the greatest factor" are
+-- The first of the greatest among the first n fractions of a sequence: the first row that has no factor and the first with the greatest factor are
 -- one rule, since a fraction over 0 is above every other. Assumes nothing.
 use mathlib.Core.Path.{_≡_, refl, ap}
 use mathlib.Core.Logic.{_⊎_, inl, inr}

@@ -1,4 +1,4 @@
-// What a call answers: a count or a refusal, and the number that document 01 gives each refusal.
+// What a call or a check answers, the number that document 01 gives each refusal, and the answer of a check by one test.
 ghost use mathlib.Core.Path.{_≡_};
 ghost use Rattle.outcome.specs.Outcome.{numberOf, check as checked};
 

@@ -18,7 +18,7 @@ printed-example : text (report 1 1 1 (negsuc 3 ∷ []) met-case)
 unfolding digits-within digits last-digits signed fixed-point verdict-line answer-line row-line factor-line text run met-case
 printed-example = refl
 
--- two tanks, e 0: the second row is not met and has no factor
+-- two tanks, e 0: the second row is named as unmet, and the first, which has no factor, decides
 unmet-case : Judgement
 unmet-case = record { met = false; unmet = 2; none = true; decides = 1; residuals = negsuc 6 ∷ pos 12 ∷ []; reaches = 0 ∷ 9 ∷ [] }
 

@@ -80,7 +80,7 @@ unfoldable pub refusal-text : ℕ → List ℕ
 refusal-text number = joined (labelled (ascii "refused ") number ∷ line-feed ∷ [])
 
 -- Room for the longest line of each kind, whatever the widths of its numbers admit (20 digits, or 19 and a minus; an answer has 10 digits,
--- a minus, a point and up to three digits more; tanks and rows have one digit), and for the longest text. A shorter buffer gets
+-- a minus, a point and up to three digits more; in the lines of answers and of rows the tank or row has one digit), and for all lines together. A shorter buffer gets
 -- nothing, and so does what no case is: more than eight tanks, or an exponent above 3.
 abbrev pub verdict-room : ℕ
 verdict-room = 59

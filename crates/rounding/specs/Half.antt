@@ -18,7 +18,7 @@ half-away : (q r b : ℕ) → 2 * r ≡ b → rounds-up q r b ≡ true
 unfolding rounds-up
 half-away q r b e = le-leb (b - r) r (omega arith)
 
--- ---- what every rule for halves has, and all that is used of this one
+-- ---- what every rule for halves has
 
 -- what goes up has at least a half
 pub up-half : (q r b : ℕ) → rounds-up q r b ≡ true → b ≤ 2 * r

@@ -26,7 +26,7 @@ kept s D t p = judged s D t (p .rounds) (p .trial)
 abbrev pub answered : System → ℕ → Progress → Solution
 answered s D p = kept s D (cond (p .within) Answered OutsideRange) p
 
--- "Refusals 8 and 9 come only when .. K is at least 1": the rounds are made where the elimination is complete, and refusal 8 where it is not
+-- the rounds are made where the elimination is complete; refusal 8 comes where it is not
 abbrev pub by-elimination : Elimination → Solution → Solution → Solution
 by-elimination Complete a b = a
 by-elimination (Stopped k) a b = b

@@ -246,7 +246,7 @@ fn answered(n: usize, progress: Progress) -> Solution
     }
 }
 
-// The answer of n rows over n tanks in at most `rounds` rounds, or the refusal that the steps reach. With no round allowed the answer is zero.
+// The answer of n rows over n tanks in at most `rounds` rounds, or the refusal that the steps reach. With no round allowed the answer is zero, unless some step has no pivot.
 pub fn solve<'a>(
     n: usize,
     scale: u16,
