@@ -1,6 +1,6 @@
 -- What a buffer holds after writes over its front, after a part of it was lent and came back with a write over the part's front, and after writes
 -- from a place on, one after another in either order of work. Assumes nothing.
-use mathlib.Core.Path.{_≡_, refl, sym, ap, _∙_}
+use mathlib.Core.Path.{_≡_, sym, ap, _∙_}
 use mathlib.Core.List.{List, [], _∷_, _++_, append-assoc, append-nil}
 use Prim.Native.Nat.{ℕ, _+_, _-_, _≤_, _<_}
 use native.Mathlib.Nat.{zero-add}
@@ -63,8 +63,8 @@ module _ {X : Type 0} where
   pub length-onto : (b out : List X) → length b ≤ length out → length (onto b out) ≡ length out
   length-onto b out h = length-onto-at 0 b out (omega arith)
 
-  pub take-onto : (b out : List X) → take (length b) (onto b out) ≡ b
-  take-onto b out = take-at b (drop (length b) out) (length b) refl
+  pub take-onto : (b out : List X) (m : ℕ) → length b ≡ m → take m (onto b out) ≡ b
+  take-onto b out m e = take-at b (drop (length b) out) m e
 
   -- what was written over the front has room there
   pub holds : (m : ℕ) (b out : List X) → length b ≡ m → m ≤ length (onto b out)

@@ -3,17 +3,16 @@
 use mathlib.Core.Path.{_≡_, sym, _∙_}
 use mathlib.Core.List.{List}
 use Prim.Native.Nat.{ℕ, _≤_}
-use lib.ListN.{drop, replicate}
+use lib.ListN.{drop}
 use lib.IntN.{ℤ, pos}
 use Rattle.outcome.specs.declared.Refusal.{Refusal}
 use Rattle.outcome.specs.declared.Status.the-variants.{Accepted, Refused}
 use Rattle.outcome.specs.Outcome.{first}
-use Rattle.buffer.specs.Buffer.{onto}
 use Rattle.limits.specs.Limits.{mostTanks}
 use Rattle.casefile.specs.Block.{Block, over, together}
 use Rattle.casefile.specs.Case.{caseWith}
-use Rattle.casefile.specs.Layout.{rowsAt, rowsEnd}
-use Rattle.casefile.specs.Decode.{headStatus, rowsStatus, rowsOf, trialOf, tailStatus, inputStatus, caseOf, refused, decode, places, stored, reading}
+use Rattle.casefile.specs.Layout.{rowsEnd}
+use Rattle.casefile.specs.Decode.{afterHead, headStatus, rowsStatus, rowsOf, trialOf, tailStatus, inputStatus, caseOf, refused, decode, padded, places, held, stored, reading}
 use Rattle.casefile.specs.CaseLaws.{head-parts}
 use Rattle.case_reader.specs.declared.Head.{Head}
 use Rattle.case_reader.specs.Read.{headOf, HeadFound}
@@ -43,38 +42,25 @@ module _ (s : List ℕ) (head : Head) (found : HeadFound s head) where
     pub small : n ≤ mostTanks
     small = rw head-is (head-parts s accepted .limits .small)
 
-    status-is : inputStatus s ≡ first (rowsStatus n n (drop rowsAt s)) (tailStatus rounds n (drop (rowsEnd n) s))
+    status-is : inputStatus s ≡ first (rowsStatus n n (afterHead s)) (tailStatus rounds n (drop (rowsEnd n) s))
     unfolding inputStatus
     status-is = rw (accepted, head-is)
 
-    case-is : caseOf s ≡ caseWith n (head .exponent) rounds (together (rowsOf n n (drop rowsAt s))) (trialOf rounds n (drop (rowsEnd n) s))
+    case-is : caseOf s ≡ caseWith n (head .exponent) rounds (together (rowsOf n n (afterHead s))) (trialOf rounds n (drop (rowsEnd n) s))
     unfolding caseOf
     case-is = rw head-is
 
-    pub rows-stop : (q : Refusal) → rowsStatus n n (drop rowsAt s) ≡ Refused q → reading (refused q) ≡ reading (decode s)
+    pub rows-stop : (q : Refusal) → rowsStatus n n (afterHead s) ≡ Refused q → reading (refused q) ≡ reading (decode s)
     rows-stop q e = stops q (status-is ∙ rw e)
 
-    module _ (r : rowsStatus n n (drop rowsAt s) ≡ Accepted) where
+    module _ (r : rowsStatus n n (afterHead s) ≡ Accepted) where
       pub tail-stops : (q : Refusal) → tailStatus rounds n (drop (rowsEnd n) s) ≡ Refused q → reading (refused q) ≡ reading (decode s)
       tail-stops q e = stops q (status-is ∙ rw (r, e))
 
       -- nothing is refused
       pub whole : tailStatus rounds n (drop (rowsEnd n) s) ≡ Accepted → (rows : Block) (y : List ℤ)
-          → rows ≡ over (together (rowsOf n n (drop rowsAt s))) places
-          → y ≡ onto (trialOf rounds n (drop (rowsEnd n) s)) (replicate mostTanks (pos 0))
-          → record {
-            status = Accepted;
-            case = record {
-              n = n;
-              exponent = head .exponent;
-              rounds = rounds;
-              coefficients = rows .coefficients;
-              tolerances = rows .tolerances;
-              «right_sides» = rows .right-sides;
-              «right_tolerances» = rows .right-tolerances;
-              trial = y;
-            };
-          }
-          ≡ reading (decode s)
+          → rows ≡ over (together (rowsOf n n (afterHead s))) places
+          → y ≡ padded mostTanks (pos 0) (trialOf rounds n (drop (rowsEnd n) s))
+          → record { status = Accepted; case = held n (head .exponent) rounds rows y } ≡ reading (decode s)
       unfolding decode reading stored
       whole e rows y m g = let z : inputStatus s ≡ Accepted = status-is ∙ rw (r, e) in rw (z, case-is, m, g)

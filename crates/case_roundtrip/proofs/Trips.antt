@@ -4,12 +4,13 @@ use mathlib.Core.Path.{_≡_, sym, ap, ap₂, _∙_}
 use mathlib.Core.List.{List}
 use Prim.Native.Nat.{ℕ, _*_, _≤_}
 use native.Mathlib.Omega.{arith}
-use lib.ListN.{length, take}
+use lib.ListN.{length, take, replicate}
 use lib.IntN.{pos}
 use Rattle.outcome.specs.declared.Refusal.{Refusal}
 use Rattle.outcome.specs.Outcome.{said}
 use Rattle.outcome.specs.declared.Outcome.{Outcome}
 use Rattle.outcome.specs.declared.Outcome.the-variants.{Count, Refused as RefusedBy}
+use Rattle.buffer.specs.Laws.{take-onto, holds}
 use Rattle.bigendian.specs.NumberLaws.{Bytes}
 use Rattle.casefile.specs.Block.{Block, block, RowsRoom, front}
 use Rattle.casefile.specs.declared.Case.{Case as Stored}
@@ -17,7 +18,7 @@ use Rattle.casefile.specs.declared.Reading.{Reading}
 use Rattle.limits.specs.Limits.{mostTanks, mostCoefficients}
 use Rattle.casefile.specs.Case.{Case, caseWith, trialCount}
 use Rattle.casefile.specs.Decode.{accepted, refused, decoded, decode, places, stored, reading}
-use Rattle.casefile.specs.StoredLaws.{padded-holds, take-padded, Whole}
+use Rattle.casefile.specs.StoredLaws.{Whole}
 use Rattle.casefile.specs.BlockLaws.{counts, front-over, room-over}
 use Rattle.casefile.specs.RowsLaws.{square-fits}
 use Rattle.casefile.specs.TailLaws.{brought-most}
@@ -78,7 +79,7 @@ module _ (s : List ℕ) (p : Stored) (w : Whole (decode s) p) where
         rows = record { small = fine .limits .small; room = room-over (c .rows) places (counts (fine .rows)) };
         square = square-fits _ (fine .limits .small);
         trial-count = omega (arith, fine .limits .small, brought-most (c .rounds) (c .n));
-        trial = padded-holds (pos 0) mostTanks _ (c .trial) (fine .trial .count);
+        trial = holds _ (c .trial) (replicate mostTanks (pos 0)) (fine .trial .count);
       })
 
   given-is : (k : ℕ) → k ≡ trialCount (p .rounds) (p .n) → handed p k ≡ c
@@ -86,7 +87,7 @@ module _ (s : List ℕ) (p : Stored) (w : Whole (decode s) p) where
   given-is k q =
       ap (handed p) q
       ∙ ap (λ x. handed x (trialCount (x .rounds) (x .n))) (w .held)
-      ∙ rw (front-over (c .rows) places (counts (fine .rows)), take-padded (pos 0) mostTanks _ (c .trial) (fine .trial .count))
+      ∙ rw (front-over (c .rows) places (counts (fine .rows)), take-onto (c .trial) (replicate mostTanks (pos 0)) _ (fine .trial .count))
 
   pub again : (k : ℕ) → k ≡ trialCount (p .rounds) (p .n) → Bytes s → (out : List ℕ) → write (handed p k) out ≡ writtenAgain (decode s) s out
   again k q bs out = rw (given-is k q, w .decoded) (read-written s c out bs (w .decoded))

@@ -1,8 +1,8 @@
 -- The whole case in the buffer: head, rows, trial and end, one behind the other, are its encoding.
 -- Assumes nothing.
-use mathlib.Core.Path.{_≡_, refl, sym, ap, _∙_}
+use mathlib.Core.Path.{_≡_, sym, ap, _∙_}
 use mathlib.Core.List.{List, _++_, append-assoc, append-nil}
-use Prim.Native.Nat.{ℕ, zero, suc, _+_}
+use Prim.Native.Nat.{ℕ, _+_}
 use native.Mathlib.Omega.{arith}
 use lib.ListN.{length, length-append}
 use lib.IntN.{ℤ}
@@ -10,10 +10,10 @@ use Rattle.buffer.specs.Buffer.{onto, joined}
 use Rattle.buffer.specs.Laws.{part, put, then}
 use Rattle.figures.specs.Figures.{spread}
 use Rattle.figures.specs.FigureLaws.{length-spread}
-use Rattle.fields.specs.Field.{headerSize, header, field, endField}
+use Rattle.fields.specs.Field.{headerSize, header, endField}
 use Rattle.fields.specs.FieldLaws.{length-field, field-written}
 use Rattle.casefile.specs.Case.{Case}
-use Rattle.casefile.specs.Layout.{headTag, headValue, rowsAt, rowsEnd, trialTag, trialKind, trialLength, trialSize, rowField, rowsIn, trialBytes, encode}
+use Rattle.casefile.specs.Layout.{headTag, headValue, headField, rowsAt, rowsEnd, trialTag, trialKind, trialLength, trialSize, trialField, rowField, rowsIn, trialBytes, encode}
 use Rattle.casefile.specs.TailLaws.{length-trial}
 use Rattle.casefile.specs.CaseLaws.{Good, encode-is, length-rows-in}
 
@@ -23,25 +23,20 @@ pub trial-written : (out : List ℕ) (len : ℕ) (y : List ℤ) (x0 y1 : List �
     → put x0 headerSize y1 ≡ onto (trialBytes 0 y) out
 trial-written out len y x0 y1 el e0 e1 =
     let v : List ℕ = spread trialKind y in
-    field-written trialTag len v out x0 (length-spread trialKind y ∙ sym el) e0 e1 ∙ ap (λ (d : List ℕ). onto d out) (sym (append-nil (field trialTag v)))
-
-pub no-trial : (out : List ℕ) (k : ℕ) (y : List ℤ) → (k ≡ 0 → ⊥) → out ≡ onto (trialBytes k y) out
-no-trial out zero y h = absurd (h refl)
-no-trial out (suc k) y h = refl
+    field-written trialTag len v out x0 (length-spread trialKind y ∙ sym el) e0 e1 ∙ ap (λ (d : List ℕ). onto d out) (sym (append-nil (trialField y)))
 
 module _ (c : Case) (g : Good c) where
   pub fields-written : (tail end : ℕ) (out x0 y1 y2 y3 : List ℕ) → tail ≡ rowsEnd (c .n) → end ≡ tail + trialSize (c .rounds) (c .n)
-      → x0 ≡ onto (field headTag (headValue (c .n) (c .exponent) (c .rounds))) out
+      → x0 ≡ onto (headField (c .n) (c .exponent) (c .rounds)) out
       → y1 ≡ onto (joined rowField (rowsIn c)) (part x0 rowsAt)
       → y2 ≡ onto (trialBytes (c .rounds) (c .trial)) (part (put x0 rowsAt y1) tail)
       → y3 ≡ onto endField (part (put (put x0 rowsAt y1) tail y2) end)
       → put (put (put x0 rowsAt y1) tail y2) end y3 ≡ onto (encode c) out
   fields-written tail end out x0 y1 y2 y3 et ee e0 e1 e2 e3 =
-      let v : List ℕ = headValue (c .n) (c .exponent) (c .rounds) in
-      let H : List ℕ = field headTag v in
+      let H : List ℕ = headField (c .n) (c .exponent) (c .rounds) in
       let R : List ℕ = joined rowField (rowsIn c) in
       let T : List ℕ = trialBytes (c .rounds) (c .trial) in
-      let l0 : length H ≡ rowsAt = length-field headTag v in
+      let l0 : length H ≡ rowsAt = length-field headTag (headValue (c .n) (c .exponent) (c .rounds)) in
       let l1 : length (H ++ R) ≡ tail = length-append H R ∙ omega (arith, length-rows-in c g) in
       let l2 : length ((H ++ R) ++ T) ≡ end =
       length-append (H ++ R) T ∙ omega (arith, length-trial (c .rounds) (c .n) (c .trial) (g .trial .count)) in

@@ -4,10 +4,9 @@ ghost use Prim.Native.Nat.{_≤_};
 ghost use lib.ListN.{length};
 ghost use Rattle.outcome.specs.declared.Status.the-variants.{Accepted};
 ghost use Rattle.buffer.specs.Buffer.{onto};
-ghost use Rattle.fields.specs.Field.{field};
 ghost use Rattle.limits.specs.Limits.{mostTanks};
 ghost use Rattle.casefile.specs.Case.{given, counted, figuresFine, caseStatus};
-ghost use Rattle.casefile.specs.Layout.{headTag, headValue, longestCase, encode, trialBytes};
+ghost use Rattle.casefile.specs.Layout.{headField, longestCase, encode, trialBytes};
 ghost use Rattle.casefile.specs.Write.{write, leaves};
 ghost use Rattle.case_writer.specs.Room.{HeadRoom, TrialRoom};
 use fields::HEADER_SIZE;
@@ -28,38 +27,20 @@ fn counts_fine(
     requires { ⌜ n ≤ mostTanks ⌝ }
     ensures { λ r. ⌜ r ≡ counted (given n 0 rounds (now (a .entry)) (now (t .entry)) (now (b .entry)) (now (f .entry)) (now (y .entry))) ⌝ }
 {
-    if a.len() != n * n {
-        return false;
-    }
-    if t.len() != n * n {
-        return false;
-    }
-    if b.len() != n {
-        return false;
-    }
-    if f.len() != n {
-        return false;
-    }
-    y.len() == casefile::trial_count(rounds, n)
+    a.len() == n * n
+        && (t.len() == n * n
+            && (b.len() == n && (f.len() == n && y.len() == casefile::trial_count(rounds, n))))
 }
 
 // Whether each figure of the lists is within its limits.
 fn figures_fine(a: &[i16], t: &[u16], b: &[i32], f: &[u32], y: &[i32]) -> bool
     ensures { λ r. ⌜ r ≡ figuresFine (given 0 0 0 (now (a .entry)) (now (t .entry)) (now (b .entry)) (now (f .entry)) (now (y .entry))) ⌝ }
 {
-    if !figures::all_i16(a, limits::COEFFICIENT_LIMIT) {
-        return false;
-    }
-    if !figures::all_u16(t, limits::TOLERANCE_LIMIT) {
-        return false;
-    }
-    if !figures::all_i32(b, limits::RIGHT_SIDE_LIMIT) {
-        return false;
-    }
-    if !figures::all_u32(f, limits::RIGHT_TOLERANCE_LIMIT) {
-        return false;
-    }
-    figures::all_i32(y, limits::TRIAL_LIMIT)
+    figures::all_i16(a, limits::COEFFICIENT_LIMIT)
+        && (figures::all_u16(t, limits::TOLERANCE_LIMIT)
+            && (figures::all_i32(b, limits::RIGHT_SIDE_LIMIT)
+                && (figures::all_u32(f, limits::RIGHT_TOLERANCE_LIMIT)
+                    && figures::all_i32(y, limits::TRIAL_LIMIT))))
 }
 
 // The first refusal of a case that is to be written, or none.
@@ -87,7 +68,7 @@ fn check_case(
 // The head's field, over the front of out.
 fn write_head(out: &mut [u8], n: usize, exponent: usize, rounds: usize)
     requires { ⌜ HeadRoom (now out) n exponent rounds ⌝ }
-    ensures { λ _. ⌜ now (out .exit) ≡ onto (field headTag (headValue n exponent rounds)) (now (out .entry)) ⌝ }
+    ensures { λ _. ⌜ now (out .exit) ≡ onto (headField n exponent rounds) (now (out .entry)) ⌝ }
 {
     fields::write_header(out, casefile::HEAD_TAG, casefile::HEAD_LENGTH as u16);
     out[casefile::N_AT] = n as u8;

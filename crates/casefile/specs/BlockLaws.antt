@@ -10,7 +10,7 @@ use lib.ListN.{length, take, drop, length-append, length-take, length-drop, take
 use lib.Seq.{take-at, drop-at}
 use lib.IntN.{ℤ}
 use Rattle.buffer.specs.Buffer.{onto}
-use Rattle.buffer.specs.Laws.{holds}
+use Rattle.buffer.specs.Laws.{take-onto, holds}
 use Rattle.figures.specs.Figures.{upTo, within, all}
 use Rattle.figures.specs.FigureLaws.{and-true, all-append, all-take, all-drop}
 use Rattle.limits.specs.Limits.{coefficientLimit, toleranceLimit, rightSideLimit, rightToleranceLimit}
@@ -69,6 +69,13 @@ sound {r} c h =
       f = record { count = c .lf; fine = w3 .1 };
     }
 
+-- what g keeps of a list's count and limit it keeps of a block's
+sound-each : (g : (X : Type 0) → ℕ → List X → List X) (k m : ℕ) {k₁ k₂ m₁ m₂ : ℕ} (r : Block)
+    → ((X : Type 0) (p : X → Bool) (l : List X) → Sound p k₁ l → Sound p k₂ (g X k l))
+    → ((X : Type 0) (p : X → Bool) (l : List X) → Sound p m₁ l → Sound p m₂ (g X m l))
+    → SoundBlock k₁ m₁ r → SoundBlock k₂ m₂ (each g k m r)
+sound-each g k m r h j s = record { a = h ℤ _ _ (s .a); t = h ℕ _ _ (s .t); b = j ℤ _ _ (s .b); f = j ℕ _ _ (s .f) }
+
 -- ---- two blocks put together
 
 -- what g takes out of two lists put together by c, of which it knows the first one's count, it takes out of two blocks
@@ -91,7 +98,7 @@ module _ {k m : ℕ} (r s : Block) (e : Counts k m r) where
   behind-stacked = each-paired (λ X. drop) (λ X. _++_) (λ X l m. m) (λ X k l m. drop-at l m k) r s e
 
   pub front-over : front k m (over r s) ≡ r
-  front-over = each-paired (λ X. take) (λ X. onto) (λ X l m. l) (λ X k l m. take-at l (drop (length l) m) k) r s e
+  front-over = each-paired (λ X. take) (λ X. onto) (λ X l m. l) (λ X k l m. take-onto l m k) r s e
 
   pub room-over : Room k m (over r s)
   room-over =
@@ -118,22 +125,10 @@ module _ (n : ℕ) where
 
   module _ (m : ℕ) (r : Block) (s : SoundBlock (suc m * n) (suc m) r) where
     sound-front : SoundBlock n 1 (front n 1 r)
-    sound-front =
-        record {
-          a = front-sound n (m * n) (more m) (s .a);
-          t = front-sound n (m * n) (more m) (s .t);
-          b = front-sound 1 m (one-more m) (s .b);
-          f = front-sound 1 m (one-more m) (s .f);
-        }
+    sound-front = sound-each (λ X. take) n 1 r (λ X p l h. front-sound n (m * n) (more m) h) (λ X p l h. front-sound 1 m (one-more m) h) s
 
     sound-behind : SoundBlock (m * n) m (behind n 1 r)
-    sound-behind =
-        record {
-          a = behind-sound n (m * n) (more m) (s .a);
-          t = behind-sound n (m * n) (more m) (s .t);
-          b = behind-sound 1 m (one-more m) (s .b);
-          f = behind-sound 1 m (one-more m) (s .f);
-        }
+    sound-behind = sound-each (λ X. drop) n 1 r (λ X p l h. behind-sound n (m * n) (more m) h) (λ X p l h. behind-sound 1 m (one-more m) h) s
 
   pub split-sound : (m : ℕ) (r : Block) → SoundBlock (m * n) m r → Rows n (split n m r)
   unfolding split

@@ -25,7 +25,7 @@ use Rattle.fields.specs.FieldLaws.{length-field, field-accepted, field-room, fi
 use Rattle.limits.specs.Limits.{mostTanks, mostExponent, mostRounds, trialLimit}
 use Rattle.casefile.specs.Block.{Counts}
 use Rattle.casefile.specs.Case.{Case, headFine, HeadSmall, trialCount, counted, rowsFine, figuresFine, caseStatus}
-use Rattle.casefile.specs.Layout.{headTag, headLength, headValue, nAt, exponentAt, roundsAt, rowsAt, rowSize, rowsEnd, longestCase, rowField, rowsIn, trialLength, trialSize, trialFields, trialBytes, encode}
+use Rattle.casefile.specs.Layout.{headTag, headLength, headValue, headField, nAt, exponentAt, roundsAt, rowsAt, rowSize, rowsEnd, longestCase, rowField, rowsIn, trialLength, trialSize, trialFields, trialBytes, encode}
 use Rattle.casefile.specs.Decode.{headTanks, headExponent, headRounds, headStatus, rowsStatus, rowsOf, trialStatus, endStatus, tailStatus, afterHead, afterRows, inputStatus, caseOf, accepted, decoded, decode}
 use Rattle.casefile.specs.BlockLaws.{Sound, SoundBlock, sound, sound-fine, Rows, split-sound, length-split, together-split, split-together, together-sound}
 use Rattle.casefile.specs.RowsLaws.{length-row-fields, rows-back, rows-accepted, rows-sound, rows-same, rows-fit}
@@ -104,7 +104,7 @@ module _ (c : Case) where
 -- ---- the encoding, field after field
 
 pub encode-is : (c : Case)
-    → encode c ≡ field headTag (headValue (c .n) (c .exponent) (c .rounds)) ++ (joined rowField (rowsIn c) ++ (trialBytes (c .rounds) (c .trial) ++ endField))
+    → encode c ≡ headField (c .n) (c .exponent) (c .rounds) ++ (joined rowField (rowsIn c) ++ (trialBytes (c .rounds) (c .trial) ++ endField))
 unfolding encode
 encode-is c =
     rw (
@@ -116,7 +116,7 @@ encode-is c =
 
 -- ---- encoded and decoded
 
-head-back : (n x k : ℕ) (rest : List ℕ) → HeadSmall n x k → headStatus (field headTag (headValue n x k) ++ rest) ≡ Accepted
+head-back : (n x k : ℕ) (rest : List ℕ) → HeadSmall n x k → headStatus (headField n x k ++ rest) ≡ Accepted
 unfolding headStatus field bytes
 head-back n x k rest h = rw (field-accepted headTag (headValue n x k) rest headLength refl (omega arith), small-head n x k h)
 
@@ -130,7 +130,7 @@ decode-encode c e =
     let g = good c e in
     let T : List ℕ = trialBytes (c .rounds) (c .trial) ++ endField in
     let R : List ℕ = joined rowField (rowsIn c) in
-    let H : List ℕ = field headTag (headValue (c .n) (c .exponent) (c .rounds)) in
+    let H : List ℕ = headField (c .n) (c .exponent) (c .rounds) in
     let rows = split-sound (c .n) (c .n) (c .rows) (g .rows) in
     let m = length-split (c .n) (c .n) (c .rows) in
     let accepted-rows = rw m at (rows-accepted (c .n) (g .limits .small) rows T) in

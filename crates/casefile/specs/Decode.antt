@@ -1,6 +1,7 @@
 -- What reading bytes as a case gives: the first refusal in document 01's order ("fields are taken from the front, and at each field 2 to 6 in turn"), or the case; and the case
 -- as the program holds it.
 use Prim.Native.Nat.{ℕ, zero, suc}
+use mathlib.Core.Bool.{Bool}
 use mathlib.Core.List.{List, []}
 use lib.ListN.{length, getD, drop, replicate}
 use lib.Dec.{eqb}
@@ -20,6 +21,10 @@ use Rattle.casefile.specs.Layout.{headTag, headLength, nAt, exponentAt, 
 use Rattle.casefile.specs.declared.Case.{Case as Stored}
 use Rattle.casefile.specs.declared.Reading.{Reading}
 
+-- "at each field 2 to 6 in turn": the field due at the front of s, and then whether its figures are within their limits
+abbrev pub dueStatus : ℕ → ℕ → List ℕ → Bool → Status
+dueStatus tag len s fine = first (fieldStatus tag len s) (check fine OutsideLimits)
+
 -- ---- the head: n, e, K
 
 abbrev pub headTanks : List ℕ → ℕ
@@ -32,9 +37,7 @@ abbrev pub headRounds : List ℕ → ℕ
 headRounds s = getD s roundsAt 0
 
 unfoldable pub headStatus : List ℕ → Status
-headStatus s =
-    first (fieldStatus headTag headLength s)
-    (check (headFine (headTanks s) (headExponent s) (headRounds s)) OutsideLimits)
+headStatus s = dueStatus headTag headLength s (headFine (headTanks s) (headExponent s) (headRounds s))
 
 -- ---- rows
 
@@ -52,7 +55,7 @@ abbrev pub rowAt : ℕ → List ℕ → Block
 rowAt n s = rowOf n (valueOf s)
 
 unfoldable pub rowStatus : ℕ → List ℕ → Status
-rowStatus n s = first (fieldStatus rowTag (rowLength n) s) (check (rowsFine (rowAt n s)) OutsideLimits)
+rowStatus n s = dueStatus rowTag (rowLength n) s (rowsFine (rowAt n s))
 
 -- m rows, one field after another: the first refusal, and the rows
 unfoldable pub rowsStatus : ℕ → ℕ → List ℕ → Status
@@ -64,14 +67,15 @@ rowsOf n m s = items (rowSize n) (rowAt n) m s
 
 -- ---- the trial, where K is 0
 
+-- the trial whose field stands at the front of s
+abbrev pub trialAt : ℕ → List ℕ → List ℤ
+trialAt n s = figures trialKind n (valueOf s)
+
 unfoldable pub trialStatus : ℕ → ℕ → List ℕ → Status
-trialStatus k n s =
-    whereBrought k
-    (first (fieldStatus trialTag (trialLength n) s) (check (all (within trialLimit) (figures trialKind n (valueOf s))) OutsideLimits))
-    Accepted
+trialStatus k n s = whereBrought k (dueStatus trialTag (trialLength n) s (all (within trialLimit) (trialAt n s))) Accepted
 
 unfoldable pub trialOf : ℕ → ℕ → List ℕ → List ℤ
-trialOf k n s = whereBrought k (figures trialKind n (valueOf s)) []
+trialOf k n s = whereBrought k (trialAt n s) []
 
 -- ---- the end: "Nothing follows."
 
@@ -123,19 +127,21 @@ padded k z l = onto l (replicate k z)
 abbrev pub places : Block
 places = block (replicate mostCoefficients (pos 0)) (replicate mostCoefficients 0) (replicate mostTanks (pos 0)) (replicate mostTanks 0)
 
-unfoldable pub stored : Case → Stored
-stored c =
-    let rows : Block = over (c .rows) places in
+abbrev pub held : ℕ → ℕ → ℕ → Block → List ℤ → Stored
+held n exponent rounds rows trial =
     record {
-      n = c .n;
-      exponent = c .exponent;
-      rounds = c .rounds;
+      n = n;
+      exponent = exponent;
+      rounds = rounds;
       coefficients = rows .coefficients;
       tolerances = rows .tolerances;
       «right_sides» = rows .right-sides;
       «right_tolerances» = rows .right-tolerances;
-      trial = padded mostTanks (pos 0) (c .trial);
+      trial = trial;
     }
+
+unfoldable pub stored : Case → Stored
+stored c = held (c .n) (c .exponent) (c .rounds) (over (c .rows) places) (padded mostTanks (pos 0) (c .trial))
 
 -- the case beside a refusal: all zeros
 abbrev pub noCase : Case

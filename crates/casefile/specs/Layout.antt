@@ -20,6 +20,9 @@ headLength = 3
 abbrev pub headValue : ℕ → ℕ → ℕ → List ℕ
 headValue n exponent rounds = n ∷ exponent ∷ rounds ∷ []
 
+abbrev pub headField : ℕ → ℕ → ℕ → List ℕ
+headField n exponent rounds = field headTag (headValue n exponent rounds)
+
 -- where they stand, and where the first row does
 abbrev pub nAt : ℕ
 nAt = headerSize
@@ -91,9 +94,12 @@ rowsIn c = split (c .n) (c .n) (c .rows)
 
 -- ---- the whole
 
--- the trial's field, where K is 0
+abbrev pub trialField : List ℤ → List ℕ
+trialField y = field trialTag (spread trialKind y)
+
+-- "present exactly if K is 0"
 abbrev pub trialFields : ℕ → List ℤ → List (List ℕ)
-trialFields k y = whereBrought k (field trialTag (spread trialKind y) ∷ []) []
+trialFields k y = whereBrought k (trialField y ∷ []) []
 
 -- the bytes of the trial's field, or none
 abbrev pub trialBytes : ℕ → List ℤ → List ℕ
@@ -102,7 +108,7 @@ trialBytes k y = joined (λ f. f) (trialFields k y)
 -- "A case is, in this order"
 abbrev pub fieldsOf : Case → List (List ℕ)
 fieldsOf c =
-    field headTag (headValue (c .n) (c .exponent) (c .rounds))
+    headField (c .n) (c .exponent) (c .rounds)
     ∷ (map rowField (rowsIn c) ++ (trialFields (c .rounds) (c .trial) ++ (endField ∷ [])))
 
 unfoldable pub encode : Case → List ℕ

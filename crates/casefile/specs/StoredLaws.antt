@@ -3,13 +3,13 @@
 use mathlib.Core.Path.{_≡_, refl, ap, _∙_}
 use mathlib.Core.List.{List, [], _∷_, _++_}
 use Prim.Native.Nat.{ℕ, zero, suc, _+_, _≤_}
-use lib.ListN.{length, getD, take, drop, replicate}
-use lib.Seq.{take-at, getD-drop}
-use lib.IntN.{ℤ, pos, natAbs}
+use lib.ListN.{length, getD, drop, replicate}
+use native.Mathlib.Omega.{arith}
+use lib.Seq.{getD-drop}
+use borrow.Author.Tests.{leb-true, le-leb}
 use Rattle.integers.specs.Tables.{same-at}
-use Rattle.buffer.specs.Laws.{holds}
-use Rattle.figures.specs.Figures.{upTo, within}
-use Rattle.figures.specs.FigureLaws.{within-at, upTo-at}
+use Rattle.figures.specs.Figures.{upTo}
+use Rattle.figures.specs.FigureLaws.{all-at}
 use Rattle.outcome.specs.declared.Refusal.{Refusal}
 use Rattle.outcome.specs.declared.Status.the-variants.{Accepted, Refused}
 use Rattle.outcome.specs.Laws.{not-both}
@@ -29,20 +29,11 @@ module _ {X : Type 0} (z : X) where
   getD-padded k l i =
       behind l (drop (length l) (replicate k z)) (λ j. getD-drop (length l) (replicate k z) j z ∙ same-at z k (length l + j)) i
 
-  -- the list's own m figures stand at the front
-  module _ (k m : ℕ) (l : List X) (e : length l ≡ m) where
-    pub padded-holds : m ≤ length (padded k z l)
-    padded-holds = holds m l (replicate k z) e
-
-    pub take-padded : take m (padded k z l) ≡ l
-    take-padded = take-at l (drop (length l) (replicate k z)) m e
-
--- each figure of a padded list is within the limit that the list's are
-pub padded-within : (k limit : ℕ) {m : ℕ} {l : List ℤ} → Sound (within limit) m l → (i : ℕ) → natAbs (getD (padded k (pos 0) l) i (pos 0)) ≤ limit
-padded-within k limit {l = l} s i = rw (getD-padded (pos 0) k l i) (within-at limit l (s .fine) i)
-
-pub padded-up-to : (k limit : ℕ) {m : ℕ} {l : List ℕ} → Sound (upTo limit) m l → (i : ℕ) → getD (padded k 0 l) i 0 ≤ limit
-padded-up-to k limit {l = l} s i = rw (getD-padded 0 k l i) (upTo-at limit l (s .fine) i)
+-- each figure of a padded list is within the limit that the list's are, by the size that the limit is of
+pub padded-within : {X : Type 0} (size : X → ℕ) (z : X) → size z ≡ 0 → (k limit : ℕ) {m : ℕ} {l : List X} → Sound (λ x. upTo limit (size x)) m l
+    → (i : ℕ) → size (getD (padded k z l) i z) ≤ limit
+padded-within size z e k limit {l = l} s i =
+    rw (getD-padded z k l i) (leb-true _ _ (all-at (λ x. upTo limit (size x)) z (le-leb _ limit (omega arith)) l (s .fine) i))
 
 -- ---- what a reading tells
 

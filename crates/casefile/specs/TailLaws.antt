@@ -13,17 +13,22 @@ use Rattle.outcome.specs.declared.Status.the-variants.{Accepted}
 use Rattle.outcome.specs.Laws.{first-accepted, first-check}
 use Rattle.bigendian.specs.Number.{be, bytes}
 use Rattle.bigendian.specs.NumberLaws.{Bytes, bytes-drop}
-use Rattle.figures.specs.Figures.{within, figures, spread, all}
+use Rattle.figures.specs.Figures.{within, spread, all}
 use Rattle.figures.specs.ItemLaws.{length-items}
 use Rattle.figures.specs.FigureLaws.{length-spread, figures-spread, spread-figures}
 use Rattle.fields.specs.Field.{headerSize, field, endTag, endLength, endSize, endField, valueOf, fieldStatus}
 use Rattle.fields.specs.FieldLaws.{length-field, field-value, field-after, field-accepted, value-room, field-is, field-same, field-room-at}
 use Rattle.limits.specs.Limits.{mostTanks, trialLimit}
 use Rattle.casefile.specs.Case.{whereBrought, trialCount}
-use Rattle.casefile.specs.Layout.{trialTag, trialKind, trialLength, trialSize, trialBytes}
-use Rattle.casefile.specs.Decode.{trialStatus, trialOf, endStatus}
+use Rattle.casefile.specs.Layout.{trialTag, trialKind, trialLength, trialSize, trialField, trialBytes}
+use Rattle.casefile.specs.Decode.{trialAt, trialStatus, trialOf, endStatus}
 use Rattle.casefile.specs.KindLaws.{trial-lawful}
 use Rattle.casefile.specs.BlockLaws.{Sound}
+
+-- K above 0
+pub not-brought : {X : Type 0} (k : ℕ) (x y : X) → (k ≡ 0 → ⊥) → whereBrought k x y ≡ y
+not-brought zero x y h = absurd (h refl)
+not-brought (suc k) x y h = refl
 
 -- what a trial brings is at most that
 pub brought-most : (k m : ℕ) → whereBrought k m 0 ≤ m
@@ -45,9 +50,9 @@ pub trial-back : (k n : ℕ) (y : List ℤ) (rest : List ℕ) → n ≤ mostTank
 unfolding trialStatus trialOf
 trial-back zero n y rest small h =
     let l : length (spread trialKind y) ≡ trialLength n = length-spread trialKind y ∙ rw (h .count) in
-    let value : figures trialKind n (valueOf (field trialTag (spread trialKind y) ++ rest)) ≡ y =
+    let value : trialAt n (trialField y ++ rest) ≡ y =
     rw (field-value trialTag (spread trialKind y) rest) (figures-spread trialKind _ trial-lawful n y rest (h .count) (h .fine)) in
-    let q = append-nil (field trialTag (spread trialKind y)) in
+    let q = append-nil (trialField y) in
     record {
       accepted = rw (q, field-accepted trialTag (spread trialKind y) rest (trialLength n) l (omega arith), value, h .fine);
       read = rw q value;
@@ -68,7 +73,7 @@ pub trial-same : (k n : ℕ) (s : List ℕ) → trialStatus k n s ≡ Accepted �
 unfolding trialStatus trialOf
 trial-same zero n s e bs =
     let w = first-accepted (fieldStatus trialTag (trialLength n) s) _ e in
-    let y : List ℤ = figures trialKind n (valueOf s) in
+    let y : List ℤ = trialAt n s in
     let l : length (spread trialKind y) ≡ trialLength n = length-spread trialKind y ∙ rw (length-items _ _ n (valueOf s)) in
     rw append-nil
     (field-same trialTag (trialLength n) s (w .0) bs (spread trialKind y) l

@@ -35,7 +35,7 @@ pub record Filed (t : Status) (bytes out : List ℕ) (m : ℕ) : Type 0 where
 pub filed-count : (t : Status) (bytes out : List ℕ) (m : ℕ) → filed t bytes out .outcome ≡ said (Count m) → Filed t bytes out m
 filed-count Accepted bytes out m e =
     let q : m ≡ length bytes = sym (ap (λ s. s .number) e) in
-    record { accepted = refl; count = q; buffer = refl; front = rw q (take-onto bytes out) }
+    record { accepted = refl; count = q; buffer = refl; front = take-onto bytes out m (sym q) }
 filed-count (Refused r) bytes out m e = no-count r m e
 
 -- a refusal is that of the status

@@ -53,16 +53,8 @@ pub struct Reading {
 pub fn head_fine(n: usize, exponent: usize, rounds: usize) -> bool
     ensures { λ r. ⌜ r ≡ headFine n exponent rounds ⌝ }
 {
-    if n < 1 {
-        return false;
-    }
-    if MOST_TANKS < n {
-        return false;
-    }
-    if limits::MOST_EXPONENT < exponent {
-        return false;
-    }
-    rounds <= limits::MOST_ROUNDS
+    1 <= n
+        && (n <= MOST_TANKS && (exponent <= limits::MOST_EXPONENT && rounds <= limits::MOST_ROUNDS))
 }
 
 // How many figures the trial has: none where K is above 0.

@@ -25,16 +25,10 @@ fn read_figures(
     let tolerances = at + casefile::tolerances_at(n);
     let right_side = at + casefile::right_side_at(n);
     let right_tolerance = at + casefile::right_tolerance_at(n);
-    if !figures::read_i16s(s, at, limits::COEFFICIENT_LIMIT, a) {
-        return false;
-    }
-    if !figures::read_u16s(s, tolerances, limits::TOLERANCE_LIMIT, t) {
-        return false;
-    }
-    if !figures::read_i32s(s, right_side, limits::RIGHT_SIDE_LIMIT, b) {
-        return false;
-    }
-    figures::read_u32s(s, right_tolerance, limits::RIGHT_TOLERANCE_LIMIT, f)
+    figures::read_i16s(s, at, limits::COEFFICIENT_LIMIT, a)
+        && (figures::read_u16s(s, tolerances, limits::TOLERANCE_LIMIT, t)
+            && (figures::read_i32s(s, right_side, limits::RIGHT_SIDE_LIMIT, b)
+                && figures::read_u32s(s, right_tolerance, limits::RIGHT_TOLERANCE_LIMIT, f)))
 }
 
 // A row's field at a place of s, its figures into the four lists.

@@ -6,18 +6,12 @@ use Rattle.ballast_c.specs.Laws.{judged-small, judged}
 use Rattle.ballast_c.proofs.ballast_judge_case.Statement.{statement}
 use Rattle.ballast_c.proofs.ballast_judge_case.Tie as tie
 
-judge-case-requires : tie.Need-judge-case-requires
-judge-case-requires c κs = search needs
-
 result-requires : tie.Need-result-requires
 result-requires c κs = judged-small _ _ _ _ (c .before .before .judge-case .ensures)
-
-same-length : tie.Need-same-length
-same-length c = search needs
 
 returns : tie.Need-returns
 returns c = judged _ _ _ _ (c .before .before .before .judge-case .ensures) _ (toZ-ofZ (record { sfits = c .result .ok }) ∙ c .result .ensures)
 
 pub ballast-judge-case-spec : {M : Type 1} → statement M
 ballast-judge-case-spec =
-    tie.close (tie.spec judge-case-requires result-requires same-length returns)
+    tie.close (tie.spec (λ c κs. search needs) result-requires (λ c. search needs) returns)

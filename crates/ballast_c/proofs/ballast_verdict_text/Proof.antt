@@ -17,23 +17,14 @@ returns c =
     let a = c .before .before .before .before .args in
     text-short (now (a .input)) (now (a .out)) _ (c .before .if1 .taken) (toZ-ofZ (record { sfits = c .result .ok }) ∙ c .result .ensures)
 
-slice-relend-prefix-verdict-text : tie.Need-slice-relend-prefix-verdict-text
-slice-relend-prefix-verdict-text c = search needs
-
 slice-aggregate-verdict-text : tie.Need-slice-aggregate-verdict-text
 slice-aggregate-verdict-text c = sym (length-take-le text-room (now (c .before .before .before .before .args .out)) (c .before .if1 .left))
-
-verdict-text-requires : tie.Need-verdict-text-requires
-verdict-text-requires c κs = search needs
 
 result-requires-2 : tie.Need-result-requires-2
 result-requires-2 c κs =
     let a = c .before .before .before .before .before .before .before .args in
     let v = c .before .before .verdict-text in
     small-count _ (text-le (now (a .input)) (now (a .out)) _ _ (c .before .before .before .before .if1 .left) (v .kept .1 .0) (v .ensures))
-
-same-length : tie.Need-same-length
-same-length c = search needs
 
 returns-2 : tie.Need-returns-2
 returns-2 c =
@@ -48,9 +39,9 @@ ballast-verdict-text-spec =
     (tie.spec
     result-requires
     returns
-    slice-relend-prefix-verdict-text
+    (λ c. search needs)
     slice-aggregate-verdict-text
-    verdict-text-requires
+    (λ c κs. search needs)
     result-requires-2
-    same-length
+    (λ c. search needs)
     returns-2)

@@ -6,18 +6,12 @@ use Rattle.ballast_c.specs.Laws.{written-small, written}
 use Rattle.ballast_c.proofs.ballast_write_case.Statement.{statement}
 use Rattle.ballast_c.proofs.ballast_write_case.Tie as tie
 
-write-case-requires : tie.Need-write-case-requires
-write-case-requires c κs = search needs
-
 result-requires : tie.Need-result-requires
 result-requires c κs = written-small _ _ _ _ (c .before .before .write-case .ensures)
-
-same-length : tie.Need-same-length
-same-length c = search needs
 
 returns : tie.Need-returns
 returns c = written _ _ _ (c .before .before .before .write-case .result) (c .before .before .before .write-case .ensures) _ (toZ-ofZ (record { sfits = c .result .ok }) ∙ c .result .ensures)
 
 pub ballast-write-case-spec : {M : Type 1} → statement M
 ballast-write-case-spec =
-    tie.close (tie.spec write-case-requires result-requires same-length returns)
+    tie.close (tie.spec (λ c κs. search needs) result-requires (λ c. search needs) returns)

@@ -13,20 +13,8 @@ use Rattle.ballast_c.specs.Result.{number}
 use Rattle.ballast_c.proofs.result.Statement.{statement}
 use Rattle.ballast_c.proofs.result.Tie as tie
 
-enum-known-outcome : tie.Need-enum-known-outcome
-enum-known-outcome c = search needs
-
 cast-result : tie.Need-cast-result
 cast-result c = sfits-size (c .before .before .before .pre .count _ (c .before .outcome .given .1))
-
-enum-known-outcome-2 : tie.Need-enum-known-outcome-2
-enum-known-outcome-2 c = search needs
-
-number-requires : tie.Need-number-requires
-number-requires c κs = search needs
-
-cast-result-2 : tie.Need-cast-result-2
-cast-result-2 c = search needs
 
 low : (c : tie.After-number) → c .number .result < 2 ^ 63
 low c = omega (arith, c .number .ok)
@@ -46,11 +34,11 @@ pub result-spec : {M : Type 1} → statement M
 result-spec =
     tie.close
     (tie.spec
-    enum-known-outcome
+    (λ c. search needs)
     cast-result
-    enum-known-outcome-2
-    number-requires
-    cast-result-2
+    (λ c. search needs)
+    (λ c κs. search needs)
+    (λ c. search needs)
     sub-result
     returns
     returns-2)

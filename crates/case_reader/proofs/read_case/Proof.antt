@@ -9,8 +9,8 @@ use lib.IntN.{pos}
 use denote.Ref.{now}
 use Rattle.outcome.specs.declared.Status.the-variants.{Accepted}
 use Rattle.limits.specs.Limits.{mostTanks}
-use Rattle.casefile.specs.Layout.{rowsAt, rowsEnd}
-use Rattle.casefile.specs.Decode.{rowsStatus}
+use Rattle.casefile.specs.Layout.{rowsEnd}
+use Rattle.casefile.specs.Decode.{afterHead, rowsStatus}
 use Rattle.casefile.specs.RowsLaws.{square-fits}
 use Rattle.case_reader.specs.declared.Head.{Head}
 use Rattle.case_reader.specs.Read.{HeadFound, TailFound}
@@ -43,7 +43,7 @@ module _ (r : tie.After-enum-told2) where
   abbrev after-head : tie.After-enum-told
   after-head = rows .before .before .before .before .before
 
-  rows-fine : let x = after-head in rowsStatus (head x .n) (head x .n) (drop rowsAt (s x)) ≡ Accepted
+  rows-fine : let x = after-head in rowsStatus (head x .n) (head x .n) (afterHead (s x)) ≡ Accepted
   rows-fine = sym (rows .read-rows .ensures .status) ∙ r .enum-told2 .given .1
 
 module _ (t : tie.After-read-tail) where

@@ -2,7 +2,6 @@
 -- Assumes nothing.
 use Prim.Native.Nat.{_+_, _≤_}
 use native.Mathlib.Omega.{arith}
-use native.Mathlib.Nat.{suc-pred-eq-of-ne-zero}
 use mathlib.Core.Path.{_≡_, refl, sym}
 use lib.ListN.{length, take, drop}
 use lib.Seq.{length-take-le}
@@ -14,6 +13,7 @@ use Rattle.fields.specs.Field.{headerSize, valueOf, fieldStatus}
 use Rattle.fields.specs.FieldLaws.{field-room-at, value-at}
 use Rattle.casefile.specs.Layout.{trialTag, trialLength}
 use Rattle.casefile.specs.Decode.{trialStatus, trialOf}
+use Rattle.casefile.specs.TailLaws.{not-brought}
 use Rattle.casefile.specs.AnswerLaws.{answer-stops, answer-goes-on}
 use borrow.Author.Needs.{needs}
 use Rattle.case_reader.proofs.read_trial.Statement.{statement}
@@ -21,7 +21,7 @@ use Rattle.case_reader.proofs.read_trial.Tie as tie
 
 returns : tie.Need-returns
 unfolding trialStatus trialOf
-returns c = rw (← (suc-pred-eq-of-ne-zero (c .if1 .taken))) (record { status = refl; made = λ _. refl })
+returns c = let k = c .before .before .args .rounds in rw (not-brought k _ _ (c .if1 .taken)) (record { status = refl; made = λ _. rw (not-brought k _ _ (c .if1 .taken)) })
 
 -- the field's refusal by the definition's length, and the room where there is none
 module _ (k : tie.After-check-field) where

@@ -3,7 +3,6 @@
 use mathlib.Core.Path.{_≡_, sym, _∙_}
 use mathlib.Core.Bool.{true}
 use denote.Ref.{now}
-use borrow.Author.Tests.{not-true, not-false}
 use Rattle.figures.specs.Figures.{within, upTo, all}
 use Rattle.limits.specs.Limits.{coefficientLimit, toleranceLimit, rightSideLimit, rightToleranceLimit}
 use Rattle.casefile.specs.Case.{rowsFine, figuresFine}
@@ -24,7 +23,7 @@ module _ (c : tie.After-all-u16) where
   first = c .before .before
 
   coefficients-fine : all (within coefficientLimit) (now (start first .args .a)) ≡ true
-  coefficients-fine = sym (coefficients-are first) ∙ not-false _ (c .before .if1 .left)
+  coefficients-fine = sym (coefficients-are first) ∙ c .before .if1 .taken
 
   tolerances-are : c .all-u16 .result ≡ all (upTo toleranceLimit) (now (start first .args .t))
   tolerances-are = c .all-u16 .ensures
@@ -34,7 +33,7 @@ module _ (c : tie.After-all-i32) where
   second = c .before .before
 
   tolerances-fine : all (upTo toleranceLimit) (now (start (first second) .args .t)) ≡ true
-  tolerances-fine = sym (tolerances-are second) ∙ not-false _ (c .before .if2 .left)
+  tolerances-fine = sym (tolerances-are second) ∙ c .before .if2 .taken
 
   right-sides-are : c .all-i32 .result ≡ all (within rightSideLimit) (now (start (first second) .args .b))
   right-sides-are = c .all-i32 .ensures
@@ -44,51 +43,51 @@ module _ (c : tie.After-all-u32) where
   third = c .before .before
 
   right-sides-fine : all (within rightSideLimit) (now (start (first (second third)) .args .b)) ≡ true
-  right-sides-fine = sym (right-sides-are third) ∙ not-false _ (c .before .if3 .left)
+  right-sides-fine = sym (right-sides-are third) ∙ c .before .if3 .taken
 
   right-tolerances-are : c .all-u32 .result ≡ all (upTo rightToleranceLimit) (now (start (first (second third)) .args .f))
   right-tolerances-are = c .all-u32 .ensures
 
 returns : tie.Need-returns
 unfolding figuresFine rowsFine
-returns c = simp (sym (coefficients-are (c .before)) ∙ not-true _ (c .if1 .taken))
+returns c =
+    let w = c .before .before in
+    let v = third w in
+    simp (coefficients-fine (second v), tolerances-fine v, right-sides-fine w, sym (right-tolerances-are w) ∙ c .before .if4 .taken)
+    (c .all-i322 .ensures)
 
 returns-2 : tie.Need-returns-2
 unfolding figuresFine rowsFine
-returns-2 c = let w = c .before in simp (coefficients-fine w, sym (tolerances-are w) ∙ not-true _ (c .if2 .taken))
+returns-2 c =
+    let w = c .before in
+    let v = third w in
+    rw (c .if4 .left) (simp (coefficients-fine (second v), tolerances-fine v, right-sides-fine w, sym (right-tolerances-are w) ∙ c .if4 .left))
 
 returns-3 : tie.Need-returns-3
 unfolding figuresFine rowsFine
 returns-3 c =
     let w = c .before in
-    simp (coefficients-fine (second w), tolerances-fine w, sym (right-sides-are w) ∙ not-true _ (c .if3 .taken))
+    rw (c .if3 .left) (simp (coefficients-fine (second w), tolerances-fine w, sym (right-sides-are w) ∙ c .if3 .left))
 
 returns-4 : tie.Need-returns-4
 unfolding figuresFine rowsFine
-returns-4 c =
-    let w = c .before in
-    let v = third w in
-    simp (coefficients-fine (second v), tolerances-fine v, right-sides-fine w, sym (right-tolerances-are w) ∙ not-true _ (c .if4 .taken))
+returns-4 c = let w = c .before in rw (c .if2 .left) (simp (coefficients-fine w, sym (tolerances-are w) ∙ c .if2 .left))
 
 returns-5 : tie.Need-returns-5
 unfolding figuresFine rowsFine
-returns-5 c =
-    let w = c .before .before in
-    let v = third w in
-    simp (coefficients-fine (second v), tolerances-fine v, right-sides-fine w, sym (right-tolerances-are w) ∙ not-false _ (c .before .if4 .left))
-    (c .all-i322 .ensures)
+returns-5 c = rw (c .if1 .left) (simp (sym (coefficients-are (c .before)) ∙ c .if1 .left))
 
 pub figures-fine-spec : {M : Type 1} → statement M
 figures-fine-spec =
     tie.close
     (tie.spec
     (λ c κs. search needs)
+    (λ c κs. search needs)
+    (λ c κs. search needs)
+    (λ c κs. search needs)
+    (λ c κs. search needs)
     returns
-    (λ c κs. search needs)
     returns-2
-    (λ c κs. search needs)
     returns-3
-    (λ c κs. search needs)
     returns-4
-    (λ c κs. search needs)
     returns-5)

@@ -4,8 +4,9 @@ use Prim.Native.Nat.{ℕ}
 use native.Mathlib.Omega.{arith}
 use mathlib.Core.Path.{subst}
 use denote.Ref.{now}
+use Rattle.casefile.specs.TailLaws.{not-brought}
 use Rattle.case_writer.specs.Room.{TrialRoom}
-use Rattle.case_writer.proofs.Whole.{trial-written, no-trial}
+use Rattle.case_writer.proofs.Whole.{trial-written}
 use borrow.Author.Needs.{needs}
 use Rattle.case_writer.proofs.write_trial.Statement.{statement}
 use Rattle.case_writer.proofs.write_trial.Tie as tie
@@ -27,9 +28,7 @@ returns c =
     rw (k .before .if1 .taken) (trial-written (now (a .out)) _ (now (a .y)) _ _ (omega (arith, brought k, k .trial-length .ensures)) (h .write-header .ensures) (w .write-i32s .ensures))
 
 returns-2 : tie.Need-returns-2
-returns-2 c =
-    let a = c .before .before .args in
-    no-trial (now (a .out)) (a .rounds) (now (a .y)) (c .if1 .left)
+returns-2 c = rw (not-brought (c .before .before .args .rounds) _ _ (c .if1 .left))
 
 pub write-trial-spec : {M : Type 1} → statement M
 write-trial-spec =

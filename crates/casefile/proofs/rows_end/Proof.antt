@@ -6,9 +6,6 @@ use borrow.Author.Needs.{needs}
 use Rattle.casefile.proofs.rows_end.Statement.{statement}
 use Rattle.casefile.proofs.rows_end.Tie as tie
 
-row-size-requires : tie.Need-row-size-requires
-row-size-requires c κs = search needs
-
 mul-result : tie.Need-mul-result
 mul-result c = rw (c .row-size .ensures) (omega (arith, rows-fit _ (c .before .pre)))
 
@@ -19,4 +16,4 @@ returns : tie.Need-returns
 returns c = rw (c .row-size .ensures)
 
 pub rows-end-spec : {M : Type 1} → statement M
-rows-end-spec = tie.close (tie.spec row-size-requires mul-result add-result returns)
+rows-end-spec = tie.close (tie.spec (λ c κs. search needs) mul-result add-result returns)

@@ -61,9 +61,6 @@ write-fraction-requires c κs =
     let u = c .before .before .before in
     room-next (left (u .before .before .before .before)) (u .write-unsigned .ensures)
 
-same-length : tie.Need-same-length
-same-length c = search needs
-
 returns : tie.Need-returns
 returns c =
     let u = c .before .before .before .before .before .before in
@@ -84,5 +81,5 @@ write-fixed-point-spec =
     write-unsigned-requires
     rem-write-fraction
     write-fraction-requires
-    same-length
+    (λ c. search needs)
     returns)

@@ -30,9 +30,6 @@ returns c = rw (c .if1 .taken) (wrote-none (c .before .before .args .at))
 slice-write-out : tie.Need-slice-write-out
 slice-write-out c = inside c
 
-add-write-last-digits : tie.Need-add-write-last-digits
-add-write-last-digits c = search needs
-
 write-last-digits-requires : tie.Need-write-last-digits-requires
 write-last-digits-requires c κs = room-next (room (c .before)) (point (c .before))
 
@@ -54,7 +51,7 @@ write-fraction-spec =
     (tie.spec
     returns
     slice-write-out
-    add-write-last-digits
+    (λ c. search needs)
     write-last-digits-requires
     same-length
     returns-2)

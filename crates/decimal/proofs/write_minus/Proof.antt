@@ -25,12 +25,6 @@ module _ (c : tie.Then1) where
 slice-write-out : tie.Need-slice-write-out
 slice-write-out c = inside c
 
-add-result : tie.Need-add-result
-add-result c = search needs
-
-same-length : tie.Need-same-length
-same-length c = search needs
-
 returns : tie.Need-returns
 returns c = rw (below c) (wrote-byte (c .before .args .at) 45 (now (c .before .args .out)) (inside c))
 
@@ -40,4 +34,4 @@ returns-2 c =
     rw (minus-from-zero (c .before .args .x) (simp toZ-ofZ at (c .if1 .left))) (wrote-none (c .before .args .at))
 
 pub write-minus-spec : {M : Type 1} → statement M
-write-minus-spec = tie.close (tie.spec slice-write-out add-result same-length returns returns-2)
+write-minus-spec = tie.close (tie.spec slice-write-out (λ c. search needs) (λ c. search needs) returns returns-2)

@@ -26,17 +26,11 @@ write-minus-requires c κs =
     let s = c .before .before in
     rw (toZ-ofZ {w = w64} (s .fits .x)) (room-front (digits (natAbs (s .args .x))) (room s))
 
-magnitude-requires : tie.Need-magnitude-requires
-magnitude-requires c κs = search needs
-
 write-unsigned-requires : tie.Need-write-unsigned-requires
 write-unsigned-requires c κs =
     let m = c .before .before .before .before in
     let s = m .before .before .before in
     rw (c .before .magnitude .ensures, toZ-ofZ {w = w64} (s .fits .x)) (room-next (room s) (sign m))
-
-same-length : tie.Need-same-length
-same-length c = search needs
 
 returns : tie.Need-returns
 unfolding signed
@@ -49,4 +43,4 @@ returns c =
 pub write-signed-spec : {M : Type 1} → statement M
 write-signed-spec =
     tie.close
-    (tie.spec write-minus-requires magnitude-requires write-unsigned-requires same-length returns)
+    (tie.spec write-minus-requires (λ c κs. search needs) write-unsigned-requires (λ c. search needs) returns)

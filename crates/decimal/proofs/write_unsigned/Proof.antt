@@ -12,16 +12,10 @@ use Rattle.decimal.proofs.write_unsigned.Tie as tie
 as-last : (x k : ℕ) → k ≡ length (digits x) → digits x ≡ last-digits k x
 as-last x k e = digits-last x ∙ ap (λ (m : ℕ). last-digits m x) (sym e)
 
-digit-count-requires : tie.Need-digit-count-requires
-digit-count-requires c κs = search needs
-
 write-last-digits-requires : tie.Need-write-last-digits-requires
 write-last-digits-requires c κs =
     let s = c .before .before .before in
     rw (as-last (s .args .x) (c .before .digit-count .result) (c .before .digit-count .ensures)) at (s .pre)
-
-same-length : tie.Need-same-length
-same-length c = search needs
 
 returns : tie.Need-returns
 returns c =
@@ -30,4 +24,4 @@ returns c =
 
 pub write-unsigned-spec : {M : Type 1} → statement M
 write-unsigned-spec =
-    tie.close (tie.spec digit-count-requires write-last-digits-requires same-length returns)
+    tie.close (tie.spec (λ c κs. search needs) write-last-digits-requires (λ c. search needs) returns)

@@ -118,9 +118,6 @@ index-1-magnitude c = omega arith
 index-2-magnitude : tie.Need-index-2-magnitude Inv-rows μ-rows Inv-steps μ-steps
 index-2-magnitude c = omega arith
 
-magnitude-requires : tie.Need-magnitude-requires Inv-rows μ-rows Inv-steps μ-steps
-magnitude-requires c κs = search needs
-
 add-i : tie.Need-add-i Inv-rows μ-rows Inv-steps μ-steps
 add-i c = omega arith
 
@@ -145,9 +142,6 @@ index-1-magnitude-2 c = omega arith
 
 index-2-magnitude-2 : tie.Need-index-2-magnitude-2 Inv-rows μ-rows Inv-steps μ-steps
 index-2-magnitude-2 c = omega arith
-
-magnitude-requires-2 : tie.Need-magnitude-requires-2 Inv-rows μ-rows Inv-steps μ-steps
-magnitude-requires-2 c κs = search needs
 
 add-i-2 : tie.Need-add-i-2 Inv-rows μ-rows Inv-steps μ-steps
 add-i-2 c = omega arith
@@ -263,14 +257,14 @@ eliminate-spec =
     mul-magnitude-2
     index-1-magnitude
     index-2-magnitude
-    magnitude-requires
+    (λ c κs. search needs)
     add-i
     rows-holds
     mul-magnitude-3
     mul-magnitude-4
     index-1-magnitude-2
     index-2-magnitude-2
-    magnitude-requires-2
+    (λ c κs. search needs)
     add-i-2
     rows-less
     rows-again

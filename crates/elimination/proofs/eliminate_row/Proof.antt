@@ -108,9 +108,6 @@ mul-rounded-by-scale-2 c =
     let s = d .before .before .before .before in
     rw (m-is (d .before), toZ-ofZ (top-fits s (d .loop .j))) (product-fits s (d .loop .j))
 
-rounded-by-scale-requires : tie.Need-rounded-by-scale-requires Inv-loop μ-loop
-rounded-by-scale-requires c κs = search needs
-
 -- what an entry loses
 module _ (c : tie.After-rounded-by-scale Inv-loop μ-loop) where
   abbrev turn : tie.At-loop Inv-loop μ-loop
@@ -195,7 +192,7 @@ eliminate-row-spec =
     mul-rounded-by-scale
     element-copy-out-rounded-by-scale
     mul-rounded-by-scale-2
-    rounded-by-scale-requires
+    (λ c κs. search needs)
     sub-row
     mul-t27
     element-set-from-row

@@ -11,17 +11,8 @@ returns c = sym (smaller _ _ _ _ (c .before .if1 .taken) (c .if2 .taken))
 returns-2 : tie.Need-returns-2
 returns-2 c = sym (larger _ _ _ _ (c .before .before .if1 .left) (c .before .if3 .taken) (c .if4 .taken))
 
-compare-requires : tie.Need-compare-requires
-compare-requires c κs = search needs
-
 enum-told : tie.Need-enum-told
 enum-told c = search needs
-
-enum-told-2 : tie.Need-enum-told-2
-enum-told-2 c = search needs
-
-enum-told-3 : tie.Need-enum-told-3
-enum-told-3 c = search needs
 
 returns-3 : tie.Need-returns-3
 returns-3 c = ap is-greater (sym (c .enum-told .given .1) ∙ c .before .before .compare .ensures)
@@ -38,10 +29,10 @@ exceeds-spec =
     (tie.spec
     returns
     returns-2
-    compare-requires
+    (λ c κs. search needs)
     enum-told
-    enum-told-2
-    enum-told-3
+    (λ c. search needs)
+    (λ c. search needs)
     returns-3
     returns-4
     returns-5)

@@ -87,10 +87,7 @@ returns c =
     let l = last (c .before .args .x) fx (below c) in
     simp toZ-ofZ (turned (c .before .args .x) fx (below c) .0)
 
-returns-2 : tie.Need-returns-2
-returns-2 c = search needs
-
 pub magnitude-spec : {M : Type 1} → statement M
 magnitude-spec =
     tie.close
-    (tie.spec add-result sub-result cast-result add-result-2 cast-result-2 returns returns-2)
+    (tie.spec add-result sub-result cast-result add-result-2 cast-result-2 returns (λ c. search needs))

@@ -10,12 +10,6 @@ use Rattle.rounding.specs.Laws.{near-by}
 use Rattle.rounding.proofs.nearest.Statement.{statement}
 use Rattle.rounding.proofs.nearest.Tie as tie
 
-div-q : tie.Need-div-q
-div-q c = search needs
-
-rem-r : tie.Need-rem-r
-rem-r c = search needs
-
 rounds-up-requires : tie.Need-rounds-up-requires
 rounds-up-requires c κs = mod-lt (c .args .a) (c .pre)
 
@@ -37,4 +31,4 @@ returns-2 c =
     sym (near-by (g .args .a) (g .args .b) (g .pre) ∙ rw (← c .before .rounds-up .ensures, c .if1 .left) (omega arith))
 
 pub nearest-spec : {M : Type 1} → statement M
-nearest-spec = tie.close (tie.spec div-q rem-r rounds-up-requires add-result returns returns-2)
+nearest-spec = tie.close (tie.spec (λ c. search needs) (λ c. search needs) rounds-up-requires add-result returns returns-2)

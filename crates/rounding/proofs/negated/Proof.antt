@@ -12,12 +12,6 @@ use Rattle.integers.specs.Code.{minus-less, minus-fits}
 use Rattle.rounding.proofs.negated.Statement.{statement}
 use Rattle.rounding.proofs.negated.Tie as tie
 
-sub-result : tie.Need-sub-result
-sub-result c = search needs
-
-cast-result : tie.Need-cast-result
-cast-result c = search needs
-
 module _ (c : tie.Else1) where
   abbrev m′ : ℕ
   m′ = c .before .args .m
@@ -53,4 +47,4 @@ returns-2 c =
 
 pub negated-spec : {M : Type 1} → statement M
 negated-spec =
-    tie.close (tie.spec sub-result cast-result sub-result-2 sub-result-3 returns returns-2)
+    tie.close (tie.spec (λ c. search needs) (λ c. search needs) sub-result-2 sub-result-3 returns returns-2)

@@ -32,9 +32,6 @@ module _ (c : tie.After-magnitude) where
   abbrev m′ : ℕ
   m′ = with-half (c .magnitude .result) / 16384
 
-magnitude-requires : tie.Need-magnitude-requires
-magnitude-requires c κs = search needs
-
 add-m : tie.Need-add-m
 add-m c = omega (arith, size-le c)
 
@@ -59,4 +56,4 @@ returns-2 c =
 
 pub rounded-by-scale-spec : {M : Type 1} → statement M
 rounded-by-scale-spec =
-    tie.close (tie.spec magnitude-requires add-m negated-requires cast-result returns returns-2)
+    tie.close (tie.spec (λ c κs. search needs) add-m negated-requires cast-result returns returns-2)

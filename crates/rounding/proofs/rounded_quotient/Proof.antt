@@ -65,12 +65,6 @@ none-below c =
     let q-from-zero : ltZ (q′ d) (pos 0) ≡ false = rw (q-is d) at (c .if3 .left) in
     rnd-signs (p′ d) (q′ d) ∙ rw (p-from-zero, q-from-zero, ← m-is d)
 
-magnitude-requires : tie.Need-magnitude-requires
-magnitude-requires c κs = search needs
-
-magnitude-requires-2 : tie.Need-magnitude-requires-2
-magnitude-requires-2 c κs = search needs
-
 nearest-requires : tie.Need-nearest-requires
 nearest-requires c κs =
     let e = rw (toZ-ofZ (c .before .before .fits .q)) at (c .magnitude2 .ensures) in
@@ -108,8 +102,8 @@ pub rounded-quotient-spec : {M : Type 1} → statement M
 rounded-quotient-spec =
     tie.close
     (tie.spec
-    magnitude-requires
-    magnitude-requires-2
+    (λ c κs. search needs)
+    (λ c κs. search needs)
     nearest-requires
     cast-result
     negated-requires

@@ -5,12 +5,9 @@ use Rattle.rounding.specs.Half.{rounds-up}
 use Rattle.rounding.proofs.rounds_up.Statement.{statement}
 use Rattle.rounding.proofs.rounds_up.Tie as tie
 
-sub-result : tie.Need-sub-result
-sub-result c = search needs
-
 returns : tie.Need-returns
 unfolding rounds-up
 returns c = refl
 
 pub rounds-up-spec : {M : Type 1} → statement M
-rounds-up-spec = tie.close (tie.spec sub-result returns)
+rounds-up-spec = tie.close (tie.spec (λ c. search needs) returns)

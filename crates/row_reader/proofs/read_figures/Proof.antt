@@ -8,7 +8,6 @@ use lib.ListN.{length, drop}
 use lib.Seq.{drop-drop}
 use lib.IntN.{ℤ}
 use denote.Ref.{now}
-use borrow.Author.Tests.{not-true, not-false}
 use Rattle.figures.specs.Figures.{Kind, u16, i32, u32, within, upTo, figures, all, RunAnswered}
 use Rattle.figures.specs.LoopLaws.{no}
 use Rattle.limits.specs.Limits.{coefficientLimit, toleranceLimit, rightSideLimit, rightToleranceLimit}
@@ -74,7 +73,7 @@ module _ (c : tie.After-read-u16s) where
   first = c .before .before .before .before
 
   first-passed : first .read-i16s .result ≡ true
-  first-passed = not-false _ (c .before .before .if1 .left)
+  first-passed = c .before .before .if1 .taken
 
   tolerances : RunAnswered (upTo toleranceLimit) (row first .tolerances) (c .read-u16s .result) (c .read-u16s .last .1 .1 .1 .0)
   unfolding rowOf
@@ -86,7 +85,7 @@ module _ (c : tie.After-read-i32s) where
   second = c .before .before .before .before .before
 
   second-passed : second .read-u16s .result ≡ true
-  second-passed = not-false _ (c .before .before .if2 .left)
+  second-passed = c .before .before .if2 .taken
 
   right-side : let w = first second in RunAnswered (within rightSideLimit) (row w .right-sides) (c .read-i32s .result) (c .read-i32s .last .1 .1 .1 .0)
   unfolding rowOf
@@ -99,7 +98,7 @@ module _ (c : tie.After-read-u32s) where
   third = c .before .before .before .before
 
   third-passed : third .read-i32s .result ≡ true
-  third-passed = not-false _ (c .before .before .if3 .left)
+  third-passed = c .before .before .if3 .taken
 
   right-tolerance : let w = first (second third) in RunAnswered (upTo rightToleranceLimit) (row w .right-tolerances) (c .read-u32s .result) (c .read-u32s .last .1 .1 .1 .0)
   unfolding rowOf
@@ -112,30 +111,6 @@ module _ (c : tie.After-read-u32s) where
 returns : tie.Need-returns
 returns c =
     let w = c .before .before in
-    record { status = fine-is _ _ (sym (not-true _ (c .if1 .taken)) ∙ coefficients w .status) refl refl refl; made = λ e. no e }
-
-returns-2 : tie.Need-returns-2
-returns-2 c =
-    let w = c .before .before .before in
-    record {
-      status = fine-is _ _ (sym (first-passed w) ∙ coefficients (first w) .status) (sym (not-true _ (c .if2 .taken)) ∙ tolerances w .status) refl refl;
-      made = λ e. no e;
-    }
-
-returns-3 : tie.Need-returns-3
-returns-3 c =
-    let w = c .before .before in
-    let v = second w in
-    record {
-      status =
-          fine-is _ _ (sym (first-passed v) ∙ coefficients (first v) .status) (sym (second-passed w) ∙ tolerances v .status)
-          (sym (not-true _ (c .if3 .taken)) ∙ right-side w .status) refl;
-      made = λ e. no e;
-    }
-
-returns-4 : tie.Need-returns-4
-returns-4 c =
-    let w = c .before .before in
     let v = third w in
     let u = second v in
     record {
@@ -146,6 +121,32 @@ returns-4 c =
           made-is _ _ (coefficients (first u) .made (first-passed u)) (tolerances u .made (second-passed v)) (right-side v .made (third-passed w))
           (right-tolerance w .made h);
     }
+
+returns-2 : tie.Need-returns-2
+returns-2 c =
+    let w = c .before .before in
+    let v = second w in
+    rw (c .if3 .left)
+    (record {
+      status =
+          fine-is _ _ (sym (first-passed v) ∙ coefficients (first v) .status) (sym (second-passed w) ∙ tolerances v .status)
+          (sym (c .if3 .left) ∙ right-side w .status) refl;
+      made = λ e. no e;
+    })
+
+returns-3 : tie.Need-returns-3
+returns-3 c =
+    let w = c .before .before .before in
+    rw (c .if2 .left)
+    (record {
+      status = fine-is _ _ (sym (first-passed w) ∙ coefficients (first w) .status) (sym (c .if2 .left) ∙ tolerances w .status) refl refl;
+      made = λ e. no e;
+    })
+
+returns-4 : tie.Need-returns-4
+returns-4 c =
+    let w = c .before .before in
+    rw (c .if1 .left) (record { status = fine-is _ _ (sym (c .if1 .left) ∙ coefficients w .status) refl refl refl; made = λ e. no e })
 
 pub read-figures-spec : {M : Type 1} → statement M
 read-figures-spec =
@@ -158,20 +159,20 @@ read-figures-spec =
     (λ c κs. search needs)
     (λ c. search needs)
     (λ c κs. search needs)
+    (λ c κs. search needs)
+    (λ c κs. search needs)
+    (λ c κs. search needs)
+    (λ c. search needs)
+    (λ c. search needs)
+    (λ c. search needs)
     (λ c. search needs)
     returns
-    (λ c κs. search needs)
+    (λ c. search needs)
     (λ c. search needs)
     (λ c. search needs)
     returns-2
-    (λ c κs. search needs)
-    (λ c. search needs)
     (λ c. search needs)
     (λ c. search needs)
     returns-3
-    (λ c κs. search needs)
-    (λ c. search needs)
-    (λ c. search needs)
-    (λ c. search needs)
     (λ c. search needs)
     returns-4)

@@ -4,12 +4,6 @@ use borrow.Author.Needs.{needs}
 use Rattle.solver.proofs.answered.Statement.{statement}
 use Rattle.solver.proofs.answered.Tie as tie
 
-kept-requires : tie.Need-kept-requires
-kept-requires c κs = search needs
-
-kept-requires-2 : tie.Need-kept-requires-2
-kept-requires-2 c κs = search needs
-
 returns : tie.Need-returns
 returns c s D e m = rw (c .before .if1 .taken) (c .kept .ensures s D e m)
 
@@ -17,4 +11,4 @@ returns-2 : tie.Need-returns-2
 returns-2 c s D e m = rw (c .before .if1 .left) (c .kept2 .ensures s D e m)
 
 pub answered-spec : {M : Type 1} → statement M
-answered-spec = tie.close (tie.spec kept-requires kept-requires-2 returns returns-2)
+answered-spec = tie.close (tie.spec (λ c κs. search needs) (λ c κs. search needs) returns returns-2)

@@ -88,9 +88,6 @@ element-copy-out-v-2 c = omega arith
 add-v : tie.Need-add-v Inv-loop μ-loop
 add-v c = let d = head c in rw (read-narrow d, read-correction d, toZ-ofZ (wide d)) (sum-fits d)
 
-magnitude-requires : tie.Need-magnitude-requires Inv-loop μ-loop
-magnitude-requires c κs = search needs
-
 returns : tie.Need-returns Inv-loop μ-loop
 returns c =
     let d = head (c .before .before) in
@@ -150,7 +147,7 @@ gain-figures-spec =
     mul-v-2
     element-copy-out-v-2
     add-v
-    magnitude-requires
+    (λ c κs. search needs)
     returns
     cast-trial
     mul-t7

@@ -5,13 +5,10 @@ use Rattle.solver.specs.Outcomes.{kept-concluded}
 use Rattle.solver.proofs.kept.Statement.{statement}
 use Rattle.solver.proofs.kept.Tie as tie
 
-conclude-requires : tie.Need-conclude-requires
-conclude-requires c κs = search needs
-
 returns : tie.Need-returns
 returns c s D e m =
     let g = c .before .before .args in
     kept-concluded s D (g .n) (g .status) (g .progress) (c .conclude .result) e (c .before .before .pre) m (c .conclude .ensures)
 
 pub kept-spec : {M : Type 1} → statement M
-kept-spec = tie.close (tie.spec conclude-requires returns)
+kept-spec = tie.close (tie.spec (λ c κs. search needs) returns)

@@ -54,9 +54,6 @@ round-requires c κs =
       countable = omega (arith, d .loop .inv .0, d .before .fits .rounds);
     }
 
-ended-requires : tie.Need-ended-requires Inv-loop μ-loop
-ended-requires c κs = search needs
-
 returns : tie.Need-returns Inv-loop μ-loop
 returns c =
     let r = c .before .before .round in
@@ -94,7 +91,7 @@ refine-spec =
     μ-loop
     loop-holds
     round-requires
-    ended-requires
+    (λ c κs. search needs)
     returns
     sub-left
     loop-less

@@ -46,28 +46,13 @@ module _ (c : tie.After-start) where
   ready : outcome (begun .args .n) (r′ begun .steps) ≡ E.Complete → Startable rows′ order′ (s′ begun) (D′ begun) (c .start .result)
   ready = startable (s′ begun) (D′ begun) rows′ order′ (c .start .result) (c .before .eliminate .ensures .rows-are) (c .before .eliminate .ensures .order-is) first-is (begun .pre)
 
-eliminate-requires : tie.Need-eliminate-requires
-eliminate-requires c κs = search needs
-
-start-requires : tie.Need-start-requires
-start-requires c κs = search needs
-
 enum-told : tie.Need-enum-told
 enum-told c = search needs
-
-kept-requires : tie.Need-kept-requires
-kept-requires c κs = search needs
-
-enum-told-2 : tie.Need-enum-told-2
-enum-told-2 c = search needs
 
 refine-requires : tie.Need-refine-requires
 refine-requires c κs =
     let d = c .before .before .before .before in
     ready d (sym (d .before .eliminate .ensures .answer-is) ∙ c .before .before .enum-told2 .given .1)
-
-answered-requires : tie.Need-answered-requires
-answered-requires c κs = search needs
 
 returns : tie.Need-returns
 returns c =
@@ -92,12 +77,12 @@ pub solve-spec : {M : Type 1} → statement M
 solve-spec =
     tie.close
     (tie.spec
-    eliminate-requires
-    start-requires
+    (λ c κs. search needs)
+    (λ c κs. search needs)
     enum-told
-    kept-requires
-    enum-told-2
+    (λ c κs. search needs)
+    (λ c. search needs)
     refine-requires
-    answered-requires
+    (λ c κs. search needs)
     returns
     returns-2)

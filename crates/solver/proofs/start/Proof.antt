@@ -19,9 +19,6 @@ fill-scaled-sides-requires c κs = (c .before .pre, zero-cleared (pos 0) (c .bef
 fill-scaled-tolerances-requires : tie.Need-fill-scaled-tolerances-requires
 fill-scaled-tolerances-requires c κs = let b = c .before .before .before in (b .pre, zero-cleared 0 (b .args .n))
 
-first-beyond-requires : tie.Need-first-beyond-requires
-first-beyond-requires c κs = search needs
-
 returns : tie.Need-returns
 returns c A E =
     let b = c .before .before .before .before .before .before .before .before .before in
@@ -35,4 +32,4 @@ returns c A E =
 pub start-spec : {M : Type 1} → statement M
 start-spec =
     tie.close
-    (tie.spec fill-scaled-sides-requires fill-scaled-tolerances-requires first-beyond-requires returns)
+    (tie.spec fill-scaled-sides-requires fill-scaled-tolerances-requires (λ c κs. search needs) returns)

@@ -40,9 +40,6 @@ module _ (c : tie.After-backward-pass) where
   backward-is : corrections (c .backward-pass .result) (c .backward-pass .last .1 .1 .1 .0) ≡ substituted (w′ begun′) (z′ begun′) (n′ begun′)
   backward-is = c .backward-pass .ensures ∙ ap (λ y. backward (w′ begun′) y (n′ begun′)) (forward-is (c .before .before .before))
 
-order-figures-requires : tie.Need-order-figures-requires
-order-figures-requires c κs = search needs
-
 forward-pass-requires : tie.Need-forward-pass-requires
 forward-pass-requires c κs = rw (c .before .order-figures .ensures) (forward-ready _ _ _ _ _ (c .before .before .before .pre))
 
@@ -68,7 +65,7 @@ pub update-trial-spec : {M : Type 1} → statement M
 update-trial-spec =
     tie.close
     (tie.spec
-    order-figures-requires
+    (λ c κs. search needs)
     forward-pass-requires
     backward-pass-requires
     gain-figures-requires

@@ -84,9 +84,6 @@ correction-of-requires c κs =
     let e = c .before .before .before .before in
     rw (read-right e) (correctable (rows′ e) (z′ e) (n′ e) (i′ e) (d′ e) (e .before .pre .0) (omega arith) (e .loop .inv .1))
 
-magnitude-requires : tie.Need-magnitude-requires Inv-loop μ-loop
-magnitude-requires c κs = search needs
-
 returns : tie.Need-returns Inv-loop μ-loop
 returns c =
     let e = c .before .before .before .before .before .before .before in
@@ -131,7 +128,7 @@ backward-pass-spec =
     mul-correction-of-2
     element-copy-out-correction-of
     correction-of-requires
-    magnitude-requires
+    (λ c κs. search needs)
     returns
     mul-v
     element-set-from-v

@@ -59,20 +59,11 @@ module _ (c : tie.After-sum-above) where
   read-pivot : toZ w64 (ofZ w64 (getD row′ i′ (pos 0))) ≡ getD row′ i′ (pos 0)
   read-pivot = toZ-ofZ (working-fits row′ d′ i′ n′ (ready .summable) i′)
 
-sum-above-requires : tie.Need-sum-above-requires
-sum-above-requires c κs = search needs
-
 mul-rounded-quotient : tie.Need-mul-rounded-quotient
 mul-rounded-quotient c = rw (read-z c) (scaled c)
 
 sub-rounded-quotient : tie.Need-sub-rounded-quotient
 sub-rounded-quotient c = rw (read-z c, read-scaled c, read-sum c) (numerator c)
-
-mul-rounded-quotient-2 : tie.Need-mul-rounded-quotient-2
-mul-rounded-quotient-2 c = search needs
-
-element-copy-out-rounded-quotient : tie.Need-element-copy-out-rounded-quotient
-element-copy-out-rounded-quotient c = search needs
 
 rounded-quotient-requires : tie.Need-rounded-quotient-requires
 rounded-quotient-requires c κs =
@@ -91,10 +82,10 @@ pub correction-of-spec : {M : Type 1} → statement M
 correction-of-spec =
     tie.close
     (tie.spec
-    sum-above-requires
+    (λ c κs. search needs)
     mul-rounded-quotient
     sub-rounded-quotient
-    mul-rounded-quotient-2
-    element-copy-out-rounded-quotient
+    (λ c. search needs)
+    (λ c. search needs)
     rounded-quotient-requires
     returns)

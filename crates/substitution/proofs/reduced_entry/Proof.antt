@@ -86,9 +86,6 @@ mul-rounded-by-scale-3 c =
     let d = c .before .before in
     subst⁻¹ (λ (x : ℤ). SFits w64 x) (read-factors d) (product d)
 
-rounded-by-scale-requires : tie.Need-rounded-by-scale-requires Inv-loop μ-loop
-rounded-by-scale-requires c κs = search needs
-
 read-loss : (c : tie.After-rounded-by-scale Inv-loop μ-loop) → toZ w64 (ofZ w64 (c .rounded-by-scale .result)) ≡ loss (row′ (c .before .before .before)) (z′ (c .before .before .before)) (j′ (c .before .before .before))
 read-loss c =
     let d = c .before .before .before in
@@ -131,7 +128,7 @@ reduced-entry-spec =
     mul-rounded-by-scale-2
     element-copy-out-rounded-by-scale-2
     mul-rounded-by-scale-3
-    rounded-by-scale-requires
+    (λ c κs. search needs)
     sub-s
     add-j
     loop-less

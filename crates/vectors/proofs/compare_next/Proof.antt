@@ -6,79 +6,31 @@ use borrow.Author.Needs.{needs}
 use Rattle.vectors.proofs.compare_next.Statement.{statement}
 use Rattle.vectors.proofs.compare_next.Tie as tie
 
-slice-aggregate-read-exactly : tie.Need-slice-aggregate-read-exactly
-slice-aggregate-read-exactly c = search needs
-
-read-exactly-requires : tie.Need-read-exactly-requires
-read-exactly-requires c κs = search needs
-
-returns : tie.Need-returns
-returns c = search needs
-
-slice-aggregate-read-u16 : tie.Need-slice-aggregate-read-u16
-slice-aggregate-read-u16 c = search needs
-
-read-u16-requires : tie.Need-read-u16-requires
-read-u16-requires c κs = search needs
-
-cast-length : tie.Need-cast-length
-cast-length c = search needs
-
-array-read-kind : tie.Need-array-read-kind
-array-read-kind c = search needs
-
-slice-aggregate-read-u16-2 : tie.Need-slice-aggregate-read-u16-2
-slice-aggregate-read-u16-2 c = search needs
-
-read-u16-requires-2 : tie.Need-read-u16-requires-2
-read-u16-requires-2 c κs = search needs
-
-cast-number : tie.Need-cast-number
-cast-number c = search needs
-
-returns-2 : tie.Need-returns-2
-returns-2 c = search needs
-
-returns-3 : tie.Need-returns-3
-returns-3 c = search needs
-
 array-borrow-prefix-expected : tie.Need-array-borrow-prefix-expected
 array-borrow-prefix-expected c = search needs
 
 slice-aggregate-read-exactly-2 : tie.Need-slice-aggregate-read-exactly-2
 slice-aggregate-read-exactly-2 c = sym (length-take-le _ _ (array-borrow-prefix-expected (c .before)))
 
-read-exactly-requires-2 : tie.Need-read-exactly-requires-2
-read-exactly-requires-2 c κs = search needs
-
-returns-4 : tie.Need-returns-4
-returns-4 c = search needs
-
-compare-requires : tie.Need-compare-requires
-compare-requires c κs = search needs
-
-returns-5 : tie.Need-returns-5
-returns-5 c = search needs
-
 pub compare-next-spec : {M : Type 1} → statement M
 compare-next-spec =
     tie.close
     (tie.spec
-    slice-aggregate-read-exactly
-    read-exactly-requires
-    returns
-    slice-aggregate-read-u16
-    read-u16-requires
-    cast-length
-    array-read-kind
-    slice-aggregate-read-u16-2
-    read-u16-requires-2
-    cast-number
-    returns-2
-    returns-3
+    (λ c. search needs)
+    (λ c κs. search needs)
+    (λ c. search needs)
+    (λ c. search needs)
+    (λ c κs. search needs)
+    (λ c. search needs)
+    (λ c. search needs)
+    (λ c. search needs)
+    (λ c κs. search needs)
+    (λ c. search needs)
+    (λ c. search needs)
+    (λ c. search needs)
     array-borrow-prefix-expected
     slice-aggregate-read-exactly-2
-    read-exactly-requires-2
-    returns-4
-    compare-requires
-    returns-5)
+    (λ c κs. search needs)
+    (λ c. search needs)
+    (λ c κs. search needs)
+    (λ c. search needs))

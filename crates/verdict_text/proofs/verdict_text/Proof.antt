@@ -10,21 +10,6 @@ use borrow.Author.Needs.{needs}
 use Rattle.verdict_text.proofs.verdict_text.Statement.{statement}
 use Rattle.verdict_text.proofs.verdict_text.Tie as tie
 
-answer-case-requires : tie.Need-answer-case-requires
-answer-case-requires c κs = search needs
-
-enum-known-status : tie.Need-enum-known-status
-enum-known-status c = search needs
-
-number-requires : tie.Need-number-requires
-number-requires c κs = search needs
-
-render-refusal-requires : tie.Need-render-refusal-requires
-render-refusal-requires c κs = search needs
-
-same-length : tie.Need-same-length
-same-length c = search needs
-
 returns : tie.Need-returns
 returns c =
     let a = c .before .before .before .before .before .before .before .before .before .before .before .args in
@@ -34,12 +19,6 @@ returns c =
 
 enum-told : tie.Need-enum-told
 enum-told c = search needs
-
-render-requires : tie.Need-render-requires
-render-requires c κs = search needs
-
-same-length-2 : tie.Need-same-length-2
-same-length-2 c = search needs
 
 returns-2 : tie.Need-returns-2
 returns-2 c =
@@ -52,13 +31,13 @@ pub verdict-text-spec : {M : Type 1} → statement M
 verdict-text-spec =
     tie.close
     (tie.spec
-    answer-case-requires
-    enum-known-status
-    number-requires
-    render-refusal-requires
-    same-length
+    (λ c κs. search needs)
+    (λ c. search needs)
+    (λ c κs. search needs)
+    (λ c κs. search needs)
+    (λ c. search needs)
     returns
     enum-told
-    render-requires
-    same-length-2
+    (λ c κs. search needs)
+    (λ c. search needs)
     returns-2)
