@@ -3,7 +3,6 @@ ghost use mathlib.Core.Path.{_≡_};
 ghost use Rattle.casefile.specs.Decode.{decode};
 ghost use Rattle.ballast.specs.Call.{status-of, answer-with, no-answer, answer-of};
 ghost use Rattle.ballast.specs.Demand.{Promise};
-use casefile::Case;
 use judge::Judgement;
 use limits::MOST_TANKS;
 use outcome::Outcome;

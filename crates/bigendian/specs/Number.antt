@@ -3,7 +3,7 @@ use Prim.Native.Nat.{ℕ, zero, suc, _+_, _*_, _-_, _/_, _%_, _^_}
 use mathlib.Core.List.{List, [], _∷_}
 use lib.ListN.{length}
 use mir.Syntax.{Width}
-use mir.Val.{bits}
+use mir.Val.{bits, bytes as bytesOf}
 
 -- document 01: "Numbers are big-endian". The number that the bytes s are, the highest first
 unfoldable pub be : List ℕ → ℕ
@@ -18,3 +18,7 @@ bytes (suc w) x = x / 256 ^ w ∷ bytes w (x % 256 ^ w)
 -- the highest number of a width
 abbrev pub highest : Width → ℕ
 highest w = 2 ^ bits w - 1
+
+-- how many bytes a number of a width has
+abbrev pub size : Width → ℕ
+size w = bytesOf w

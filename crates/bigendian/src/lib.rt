@@ -6,7 +6,7 @@ ghost use lib.ListN.{length, take, drop};
 ghost use lib.Signed.{mag};
 ghost use mir.Syntax.{Width, w16, w32, w64};
 ghost use mir.Val.{toZ, ofZ};
-ghost use Rattle.bigendian.specs.Number.{be, bytes, highest};
+ghost use Rattle.bigendian.specs.Number.{be, bytes, highest, size};
 ghost use Rattle.buffer.specs.Buffer.{onto};
 
 // How many bytes a number of 16, 32 and 64 bits has.
@@ -39,15 +39,15 @@ fn byte(s: &[u8], at: usize) -> u16
 }
 
 pub fn read_u16(s: &[u8], at: usize) -> u16
-    requires { ⌜ at + 2 ≤ length (now s) ⌝ }
-    ensures { λ r. ⌜ r ≡ be (take 2 (drop at (now (s .entry)))) ⌝ }
+    requires { ⌜ at + size w16 ≤ length (now s) ⌝ }
+    ensures { λ r. ⌜ r ≡ be (take (size w16) (drop at (now (s .entry)))) ⌝ }
 {
     byte(s, at) * COUNT_8 + byte(s, at + 1)
 }
 
 pub fn read_u32(s: &[u8], at: usize) -> u32
-    requires { ⌜ at + 4 ≤ length (now s) ⌝ }
-    ensures { λ r. ⌜ r ≡ be (take 4 (drop at (now (s .entry)))) ⌝ }
+    requires { ⌜ at + size w32 ≤ length (now s) ⌝ }
+    ensures { λ r. ⌜ r ≡ be (take (size w32) (drop at (now (s .entry)))) ⌝ }
 {
     let high = read_u16(s, at) as u32;
     let low = read_u16(s, at + SIZE_16) as u32;
@@ -55,8 +55,8 @@ pub fn read_u32(s: &[u8], at: usize) -> u32
 }
 
 pub fn read_u64(s: &[u8], at: usize) -> u64
-    requires { ⌜ at + 8 ≤ length (now s) ⌝ }
-    ensures { λ r. ⌜ r ≡ be (take 8 (drop at (now (s .entry)))) ⌝ }
+    requires { ⌜ at + size w64 ≤ length (now s) ⌝ }
+    ensures { λ r. ⌜ r ≡ be (take (size w64) (drop at (now (s .entry)))) ⌝ }
 {
     let high = read_u32(s, at) as u64;
     let low = read_u32(s, at + SIZE_32) as u64;
@@ -76,45 +76,45 @@ fn signed_of(x: u64, ones: u64) -> i64
 }
 
 pub fn read_i16(s: &[u8], at: usize) -> i16
-    requires { ⌜ at + 2 ≤ length (now s) ⌝ }
-    ensures { λ r. ⌜ r ≡ toZ w16 (be (take 2 (drop at (now (s .entry))))) ⌝ }
+    requires { ⌜ at + size w16 ≤ length (now s) ⌝ }
+    ensures { λ r. ⌜ r ≡ toZ w16 (be (take (size w16) (drop at (now (s .entry))))) ⌝ }
 {
     signed_of(read_u16(s, at) as u64, HIGHEST_16) as i16
 }
 
 pub fn read_i32(s: &[u8], at: usize) -> i32
-    requires { ⌜ at + 4 ≤ length (now s) ⌝ }
-    ensures { λ r. ⌜ r ≡ toZ w32 (be (take 4 (drop at (now (s .entry))))) ⌝ }
+    requires { ⌜ at + size w32 ≤ length (now s) ⌝ }
+    ensures { λ r. ⌜ r ≡ toZ w32 (be (take (size w32) (drop at (now (s .entry))))) ⌝ }
 {
     signed_of(read_u32(s, at) as u64, HIGHEST_32) as i32
 }
 
 pub fn read_i64(s: &[u8], at: usize) -> i64
-    requires { ⌜ at + 8 ≤ length (now s) ⌝ }
-    ensures { λ r. ⌜ r ≡ toZ w64 (be (take 8 (drop at (now (s .entry))))) ⌝ }
+    requires { ⌜ at + size w64 ≤ length (now s) ⌝ }
+    ensures { λ r. ⌜ r ≡ toZ w64 (be (take (size w64) (drop at (now (s .entry))))) ⌝ }
 {
     signed_of(read_u64(s, at), HIGHEST_64)
 }
 
 pub fn write_u16(out: &mut [u8], x: u16)
-    requires { ⌜ 2 ≤ length (now out) ⌝ }
-    ensures { λ _. ⌜ now (out .exit) ≡ onto (bytes 2 x) (now (out .entry)) ⌝ }
+    requires { ⌜ size w16 ≤ length (now out) ⌝ }
+    ensures { λ _. ⌜ now (out .exit) ≡ onto (bytes (size w16) x) (now (out .entry)) ⌝ }
 {
     out[0] = (x / COUNT_8) as u8;
     out[1] = (x % COUNT_8) as u8;
 }
 
 pub fn write_u32(out: &mut [u8], x: u32)
-    requires { ⌜ 4 ≤ length (now out) ⌝ }
-    ensures { λ _. ⌜ now (out .exit) ≡ onto (bytes 4 x) (now (out .entry)) ⌝ }
+    requires { ⌜ size w32 ≤ length (now out) ⌝ }
+    ensures { λ _. ⌜ now (out .exit) ≡ onto (bytes (size w32) x) (now (out .entry)) ⌝ }
 {
     write_u16(out, (x / COUNT_16) as u16);
     write_u16(&mut out[SIZE_16..], (x % COUNT_16) as u16);
 }
 
 pub fn write_u64(out: &mut [u8], x: u64)
-    requires { ⌜ 8 ≤ length (now out) ⌝ }
-    ensures { λ _. ⌜ now (out .exit) ≡ onto (bytes 8 x) (now (out .entry)) ⌝ }
+    requires { ⌜ size w64 ≤ length (now out) ⌝ }
+    ensures { λ _. ⌜ now (out .exit) ≡ onto (bytes (size w64) x) (now (out .entry)) ⌝ }
 {
     write_u32(out, (x / COUNT_32) as u32);
     write_u32(&mut out[SIZE_32..], (x % COUNT_32) as u32);
@@ -133,22 +133,22 @@ fn bits_of(z: i64, ones: u64) -> u64
 }
 
 pub fn write_i16(out: &mut [u8], z: i16)
-    requires { ⌜ 2 ≤ length (now out) ⌝ }
-    ensures { λ _. ⌜ now (out .exit) ≡ onto (bytes 2 (ofZ w16 z)) (now (out .entry)) ⌝ }
+    requires { ⌜ size w16 ≤ length (now out) ⌝ }
+    ensures { λ _. ⌜ now (out .exit) ≡ onto (bytes (size w16) (ofZ w16 z)) (now (out .entry)) ⌝ }
 {
     write_u16(out, bits_of(z as i64, HIGHEST_16) as u16);
 }
 
 pub fn write_i32(out: &mut [u8], z: i32)
-    requires { ⌜ 4 ≤ length (now out) ⌝ }
-    ensures { λ _. ⌜ now (out .exit) ≡ onto (bytes 4 (ofZ w32 z)) (now (out .entry)) ⌝ }
+    requires { ⌜ size w32 ≤ length (now out) ⌝ }
+    ensures { λ _. ⌜ now (out .exit) ≡ onto (bytes (size w32) (ofZ w32 z)) (now (out .entry)) ⌝ }
 {
     write_u32(out, bits_of(z as i64, HIGHEST_32) as u32);
 }
 
 pub fn write_i64(out: &mut [u8], z: i64)
-    requires { ⌜ 8 ≤ length (now out) ⌝ }
-    ensures { λ _. ⌜ now (out .exit) ≡ onto (bytes 8 (ofZ w64 z)) (now (out .entry)) ⌝ }
+    requires { ⌜ size w64 ≤ length (now out) ⌝ }
+    ensures { λ _. ⌜ now (out .exit) ≡ onto (bytes (size w64) (ofZ w64 z)) (now (out .entry)) ⌝ }
 {
     write_u64(out, bits_of(z, HIGHEST_64));
 }

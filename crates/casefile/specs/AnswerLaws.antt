@@ -5,7 +5,7 @@ use Rattle.outcome.specs.declared.Refusal.{Refusal}
 use Rattle.outcome.specs.declared.Status.{Status}
 use Rattle.outcome.specs.declared.Status.the-variants.{Accepted, Refused}
 use Rattle.outcome.specs.Outcome.{check, first}
-use Rattle.outcome.specs.Laws.{stops, goes-on, not-both, check-accepted}
+use Rattle.outcome.specs.Laws.{stops, first-goes-on, not-both, check-accepted}
 use Rattle.figures.specs.Figures.{Answered}
 
 module _ {A : Type 0} {value out : A} {x s : Status} (e : x ≡ s) where
@@ -16,5 +16,5 @@ module _ {A : Type 0} {value out : A} {x s : Status} (e : x ≡ s) where
   -- it is not, and the test of its value passed or failed
   pub answer-goes-on : (r : Refusal) {due passed : Bool} {status : Status} → x ≡ Accepted → Answered true due value passed out → status ≡ check passed r
       → Answered Accepted (first s (check due r)) value status out
-  answer-goes-on r {passed = passed} g w h =
-      record { status = h ∙ goes-on r e g (sym (w .status)); made = λ y. w .made (check-accepted passed r (sym h ∙ y)) }
+  answer-goes-on r {due} {passed} g w h =
+      record { status = h ∙ rw (w .status) (first-goes-on s (check due r) (sym e ∙ g)); made = λ y. w .made (check-accepted passed r (sym h ∙ y)) }

@@ -7,7 +7,7 @@ use lib.ListN.{length, take, drop}
 use lib.IntN.{pos, negsuc}
 use Rattle.outcome.specs.declared.Refusal.the-variants.{FieldMissing, WrongTag, WrongLength, ValueCutShort, OutsideLimits, TrailingBytes}
 use Rattle.bigendian.specs.Number.{be, bytes}
-use Rattle.figures.specs.Figures.{items, spread, all}
+use Rattle.figures.specs.Figures.{i16, items, spread, all}
 use Rattle.fields.specs.Field.{headerSize, field, fieldStatus}
 use Rattle.casefile.specs.Block.{split}
 use Rattle.casefile.specs.Case.{Case, given, rowsFine}
@@ -84,7 +84,7 @@ nineTanks = 0x01 ∷ 0x00 ∷ 0x03 ∷ 0x09 ∷ 0x01 ∷ 0x01 ∷ []
 
 -- coefficient −32,768, 8000: the printed case with it
 abbrev pub leastCoefficient : List ℕ
-leastCoefficient = take (rowsAt + headerSize) printedBytes ++ (0x80 ∷ 0x00 ∷ drop (rowsAt + headerSize + 2) printedBytes)
+leastCoefficient = take (rowsAt + headerSize) printedBytes ++ (0x80 ∷ 0x00 ∷ drop (rowsAt + headerSize + i16 .width) printedBytes)
 
 -- in the order of the answers below: printed; longest; nothing at all; an end field at the head's place; a head of length 4; a head whose value is cut short;
 -- n 9; coefficient −32,768; a last field that is cut short; a byte behind the end field

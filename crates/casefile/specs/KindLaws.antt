@@ -1,6 +1,5 @@
 -- Each kind of figure of a case holds the figures within its limits.
 -- Assumes nothing.
-use mathlib.Core.Path.{refl}
 use lib.Dec.{lit<}
 use mir.Syntax.{w16, w32}
 use Rattle.figures.specs.Figures.{i16, u16, i32, u32, upTo, within}
@@ -9,16 +8,16 @@ use Rattle.limits.specs.Limits.{coefficientLimit, toleranceLimit, rightSideLimi
 use Rattle.casefile.specs.Layout.{trialKind}
 
 pub coefficient-lawful : Lawful i16 (within coefficientLimit)
-coefficient-lawful = signed-lawful 2 w16 coefficientLimit refl (lit< tt)
+coefficient-lawful = signed-lawful w16 coefficientLimit (lit< tt)
 
 pub tolerance-lawful : Lawful u16 (upTo toleranceLimit)
-tolerance-lawful = unsigned-lawful 2 toleranceLimit (lit< tt)
+tolerance-lawful = unsigned-lawful w16 toleranceLimit (lit< tt)
 
 pub right-side-lawful : Lawful i32 (within rightSideLimit)
-right-side-lawful = signed-lawful 4 w32 rightSideLimit refl (lit< tt)
+right-side-lawful = signed-lawful w32 rightSideLimit (lit< tt)
 
 pub right-tolerance-lawful : Lawful u32 (upTo rightToleranceLimit)
-right-tolerance-lawful = unsigned-lawful 4 rightToleranceLimit (lit< tt)
+right-tolerance-lawful = unsigned-lawful w32 rightToleranceLimit (lit< tt)
 
 pub trial-lawful : Lawful trialKind (within trialLimit)
-trial-lawful = signed-lawful 4 w32 trialLimit refl (lit< tt)
+trial-lawful = signed-lawful w32 trialLimit (lit< tt)

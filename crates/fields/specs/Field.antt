@@ -3,20 +3,24 @@ use Prim.Native.Nat.{ℕ, _+_, _-_}
 use mathlib.Core.List.{List, [], _∷_, _++_}
 use lib.ListN.{length, getD, take, drop}
 use lib.Dec.{leb, eqb}
+use mir.Syntax.{w16}
 use Rattle.outcome.specs.declared.Refusal.the-variants.{FieldMissing, WrongTag, WrongLength, ValueCutShort}
 use Rattle.outcome.specs.declared.Status.{Status}
 use Rattle.outcome.specs.Outcome.{check, first}
-use Rattle.bigendian.specs.Number.{be, bytes}
+use Rattle.bigendian.specs.Number.{be, bytes, size}
 
 -- document 01: "one byte tag, two bytes length, then the value"
+abbrev pub lengthAt : ℕ
+lengthAt = 1
+
 abbrev pub lengthSize : ℕ
-lengthSize = 2
+lengthSize = size w16
 
 abbrev pub header : ℕ → ℕ → List ℕ
 header tag len = tag ∷ bytes lengthSize len
 
 abbrev pub headerSize : ℕ
-headerSize = 1 + lengthSize
+headerSize = lengthAt + lengthSize
 
 unfoldable pub field : ℕ → List ℕ → List ℕ
 field tag value = header tag (length value) ++ value
@@ -39,7 +43,7 @@ abbrev pub tagOf : List ℕ → ℕ
 tagOf s = getD s 0 0
 
 abbrev pub lengthOf : List ℕ → ℕ
-lengthOf s = be (take lengthSize (drop 1 s))
+lengthOf s = be (take lengthSize (drop lengthAt s))
 
 abbrev pub valueOf : List ℕ → List ℕ
 valueOf s = drop headerSize s

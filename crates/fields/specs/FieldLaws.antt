@@ -16,7 +16,7 @@ use Rattle.buffer.specs.Buffer.{onto}
 use Rattle.buffer.specs.Laws.{part, put, then}
 use Rattle.bigendian.specs.Number.{be, bytes}
 use Rattle.bigendian.specs.NumberLaws.{Bytes, be-bytes, length-bytes, bytes-of, bytes-drop}
-use Rattle.fields.specs.Field.{lengthSize, header, headerSize, field, tagOf, lengthOf, valueOf, afterField, fieldStatus}
+use Rattle.fields.specs.Field.{lengthAt, lengthSize, header, headerSize, field, tagOf, lengthOf, valueOf, afterField, fieldStatus}
 
 pub length-header : (tag len : ℕ) → length (header tag len) ≡ headerSize
 length-header tag len = ap suc (length-bytes lengthSize len)
@@ -58,10 +58,10 @@ module _ (tag : ℕ) (v r : List ℕ) where
 
   pub field-accepted : (len : ℕ) → length v ≡ len → len < 256 ^ lengthSize → fieldStatus tag len (field tag v ++ r) ≡ Accepted
   unfolding field bytes fieldStatus
-  field-accepted len e h = whole _ _ (v ++ r) (be-bytes lengthSize (length v) (omega arith) ∙ e) (omega (arith, length-append v r))
+  field-accepted len e h = passes _ _ (v ++ r) (be-bytes lengthSize (length v) (omega arith) ∙ e) (omega (arith, length-append v r))
     where
-      whole : (x y : ℕ) (q : List ℕ) → be (x ∷ y ∷ []) ≡ len → len ≤ length q → fieldStatus tag len (tag ∷ x ∷ y ∷ q) ≡ Accepted
-      whole x y q b m =
+      passes : (x y : ℕ) (q : List ℕ) → be (x ∷ y ∷ []) ≡ len → len ≤ length q → fieldStatus tag len (tag ∷ x ∷ y ∷ q) ≡ Accepted
+      passes x y q b m =
           rw (
             le-leb headerSize (suc (suc (suc (length q)))) (omega arith),
             eq-eqb tag tag refl,
@@ -99,16 +99,16 @@ module _ (tag len : ℕ) (s : List ℕ) (accepted : fieldStatus tag len s ≡ Ac
   unfolding field
   field-is bs =
       let w = whole in
-      let d : lengthSize ≤ length (drop 1 s) = simp length-drop (omega arith) in
-      let b : bytes lengthSize len ≡ take lengthSize (drop 1 s) = rw (← (w .length-is)) (bytes-of lengthSize (drop 1 s) (bytes-drop 1 bs) d) in
+      let d : lengthSize ≤ length (drop lengthAt s) = simp length-drop (omega arith) in
+      let b : bytes lengthSize len ≡ take lengthSize (drop lengthAt s) = rw (← (w .length-is)) (bytes-of lengthSize (drop lengthAt s) (bytes-drop lengthAt bs) d) in
       rw (
         length-take-le len (valueOf s) value-room,
         b,
-        append-assoc (take lengthSize (drop 1 s)) (take len (valueOf s)) (afterField len s),
+        append-assoc (take lengthSize (drop lengthAt s)) (take len (valueOf s)) (afterField len s),
         ← (drop-drop len headerSize s),
         take-append-drop len (valueOf s),
-        ← (drop-drop lengthSize 1 s),
-        take-append-drop lengthSize (drop 1 s),
+        ← (drop-drop lengthSize lengthAt s),
+        take-append-drop lengthSize (drop lengthAt s),
         ← (w .tag-is),
       )
       (sym (drop-cons s 0 0 (omega arith)))

@@ -8,13 +8,13 @@ use native.Mathlib.Omega.{arith}
 use native.Mathlib.Nat.{mul-suc, mul-comm}
 use lib.ListN.{length, getD, take, drop, length-drop, take-append-drop}
 use lib.Seq.{take-at, drop-at}
-use lib.IntN.{ℤ, pos, natAbs}
 use mir.Syntax.{Width}
-use mir.Val.{bits, hbits}
+use mir.Val.{hbits}
 use mir.Facts.{toZ-ofZ, ofZ-toZ, fits-ofZ}
-use borrow.Author.Tests.{leb-true, le-leb}
+use store.Enc.{two-256}
+use borrow.Author.Tests.{leb-true}
 use Rattle.integers.specs.Size.{sfits-leb}
-use Rattle.bigendian.specs.Number.{be}
+use Rattle.bigendian.specs.Number.{be, size}
 use Rattle.bigendian.specs.NumberLaws.{Bytes, bytes-drop, bytes-of, be-of, be-bytes, length-bytes}
 use Rattle.figures.specs.Figures.{Kind, unsigned, signed, upTo, within, figureAt, figures, after, figureBytes, spread, all}
 use Rattle.figures.specs.ItemLaws.{length-joined, Back, items-back, items-same}
@@ -50,13 +50,6 @@ module _ {X : Type 0} (p : X → Bool) where
   all-at d e (x ∷ l) h zero = and-true (p x) (all p l) h .0
   all-at d e (x ∷ l) h (suc i) = all-at d e l (and-true (p x) (all p l) h .1) i
 
--- a figure of a list that passed the test of a limit, past the end too
-pub within-at : (limit : ℕ) (l : List ℤ) → all (within limit) l ≡ true → (i : ℕ) → natAbs (getD l i (pos 0)) ≤ limit
-within-at limit l h i = leb-true _ _ (all-at (within limit) (pos 0) (le-leb 0 limit (omega arith)) l h i)
-
-pub upTo-at : (limit : ℕ) (l : List ℕ) → all (upTo limit) l ≡ true → (i : ℕ) → getD l i 0 ≤ limit
-upTo-at limit l h i = leb-true _ _ (all-at (upTo limit) 0 (le-leb 0 limit (omega arith)) l h i)
-
 -- ---- a kind holds the figures that pass a test
 
 pub record Lawful {X : Type 0} (k : Kind X) (f : X → Bool) : Type 0 where
@@ -64,29 +57,37 @@ pub record Lawful {X : Type 0} (k : Kind X) (f : X → Bool) : Type 0 where
   pub fits : (x : X) → f x ≡ true → k .number x < 256 ^ k .width
   pub same : (b : ℕ) → b < 256 ^ k .width → k .number (k .figure b) ≡ b
 
-pub unsigned-lawful : (n limit : ℕ) → limit < 256 ^ n → Lawful (unsigned n) (upTo limit)
-unsigned-lawful n limit h =
+pub unsigned-lawful : (w : Width) (limit : ℕ) → limit < 256 ^ size w → Lawful (unsigned w) (upTo limit)
+unsigned-lawful w limit h =
     record {
       back = λ x e. refl;
       fits = λ x e. let k : x ≤ limit = leb-true x limit e in omega arith;
       same = λ b g. refl;
     }
 
-pub signed-lawful : (n : ℕ) (w : Width) (limit : ℕ) → 2 ^ bits w ≡ 256 ^ n → limit < 2 ^ hbits w → Lawful (signed n w) (within limit)
-signed-lawful n w limit g h =
+pub signed-lawful : (w : Width) (limit : ℕ) → limit < 2 ^ hbits w → Lawful (signed w) (within limit)
+signed-lawful w limit h =
     record {
       back = λ z e. toZ-ofZ (sfits-leb limit h z e);
-      fits = λ z e. rw (← g) (fits-ofZ (sfits-leb {w = w} limit h z e) .fits);
-      same = λ b k. ofZ-toZ {w = w} (record { fits = rw g k });
+      fits = λ z e. rw (← (two-256 w)) (fits-ofZ (sfits-leb {w = w} limit h z e) .fits);
+      same = λ b k. ofZ-toZ {w = w} (record { fits = rw (two-256 w) k });
     }
 
--- ---- runs of figures
+-- ---- figures as bytes, and runs of them
 
 module _ {X : Type 0} (k : Kind X) where
+  pub length-figure : (x : X) → length (figureBytes k x) ≡ k .width
+  length-figure x = length-bytes (k .width) (k .number x)
+
+  -- a figure's bytes are read back, whatever follows them
+  pub figure-back : (x : X) → k .number x < 256 ^ k .width → k .figure (k .number x) ≡ x → (r : List ℕ) → figureAt k (figureBytes k x ++ r) ≡ x
+  figure-back x h e r =
+      ap (λ v. k .figure (be v)) (take-at (figureBytes k x) r (k .width) (length-figure x)) ∙ ap (k .figure) (be-bytes (k .width) (k .number x) h) ∙ e
+
   pub length-spread : (xs : List X) → length (spread k xs) ≡ k .width * length xs
   unfolding spread
   length-spread xs =
-      length-joined (k .width) (figureAt k) (figureBytes k) (λ xs. Unit {0}) (λ x xs h. (length-bytes (k .width) (k .number x), tt)) xs tt
+      length-joined (k .width) (figureAt k) (figureBytes k) (λ xs. Unit {0}) (λ x xs h. (length-figure x, tt)) xs tt
       ∙ mul-comm (length xs) (k .width)
 
   pub after-spread : (n : ℕ) (xs : List X) (r : List ℕ) → length xs ≡ n → after k n (spread k xs ++ r) ≡ r
@@ -101,16 +102,7 @@ module _ {X : Type 0} (k : Kind X) where
         next : (x : X) (xs : List X) → all f (x ∷ xs) ≡ true → Back (k .width) (figureAt k) (figureBytes k) x × (all f xs ≡ true)
         next x xs h =
             let w = and-true (f x) (all f xs) h in
-            let s : length (figureBytes k x) ≡ k .width = length-bytes (k .width) (k .number x) in (
-              record {
-                size = s;
-                read = λ r.
-                    ap (λ (v : List ℕ). k .figure (be v)) (take-at (figureBytes k x) r (k .width) s)
-                    ∙ ap (k .figure) (be-bytes (k .width) (k .number x) (l .fits x (w .0)))
-                    ∙ l .back x (w .0);
-              },
-              w .1,
-            )
+            (record { size = length-figure x; read = figure-back x (l .fits x (w .0)) (l .back x (w .0)) }, w .1)
 
     -- what was read is written back
     pub spread-figures : (n : ℕ) (v : List ℕ) → Bytes v → k .width * n ≤ length v → spread k (figures k n v) ++ after k n v ≡ v

@@ -6,9 +6,9 @@ use mathlib.Core.Path.{_≡_}
 use lib.ListN.{length, take, drop}
 use lib.IntN.{ℤ, natAbs}
 use lib.Dec.{leb}
-use mir.Syntax.{Width, w16, w32}
+use mir.Syntax.{Width, w16, w32, w64}
 use mir.Val.{toZ, ofZ}
-use Rattle.bigendian.specs.Number.{be, bytes}
+use Rattle.bigendian.specs.Number.{be, bytes, size}
 use Rattle.buffer.specs.Buffer.{joined}
 
 -- how many bytes a figure has, the figure of a number so written, and the number of a figure
@@ -17,25 +17,31 @@ pub record Kind (X : Type 0) : Type 0 where
   pub figure : ℕ → X
   pub number : X → ℕ
 
-abbrev pub unsigned : ℕ → Kind ℕ
-unsigned n = record { width = n; figure = λ x. x; number = λ x. x }
+abbrev pub unsigned : Width → Kind ℕ
+unsigned w = record { width = size w; figure = λ x. x; number = λ x. x }
 
 -- document 01: "signed ones in two's complement"
-abbrev pub signed : ℕ → Width → Kind ℤ
-signed n w = record { width = n; figure = toZ w; number = ofZ w }
+abbrev pub signed : Width → Kind ℤ
+signed w = record { width = size w; figure = toZ w; number = ofZ w }
 
 -- named as the code's types
 abbrev pub u16 : Kind ℕ
-u16 = unsigned 2
+u16 = unsigned w16
 
 abbrev pub u32 : Kind ℕ
-u32 = unsigned 4
+u32 = unsigned w32
+
+abbrev pub u64 : Kind ℕ
+u64 = unsigned w64
 
 abbrev pub i16 : Kind ℤ
-i16 = signed 2 w16
+i16 = signed w16
 
 abbrev pub i32 : Kind ℤ
-i32 = signed 4 w32
+i32 = signed w32
+
+abbrev pub i64 : Kind ℤ
+i64 = signed w64
 
 -- limits: from 0 to the limit, and from minus the limit to the limit
 abbrev pub upTo : ℕ → ℕ → Bool

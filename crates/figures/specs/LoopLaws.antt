@@ -40,16 +40,17 @@ module _ {A S : Type 0} (w : ℕ) (item : List ℕ → A) (answer : ℕ → List
     status : answer (n - i) (drop p s) ≡ answer n (drop at s)
     made : done ++ items w item (n - i) (drop p s) ≡ items w item n (drop at s)
 
-  pub begun : Reading [] 0 at
+module _ {A S : Type 0} {w : ℕ} {item : List ℕ → A} {answer : ℕ → List ℕ → S} {n : ℕ} {s : List ℕ} {at : ℕ} where
+  pub begun : Reading w item answer n s at [] 0 at
   begun = record { count = omega arith; status = rw (sub-zero n); made = rw (sub-zero n) }
 
-  module _ {done : List A} {i p : ℕ} (r : Reading done i p) where
+  module _ {done : List A} {i p : ℕ} (r : Reading w item answer n s at done i p) where
     -- the next item's answer is the whole's
     pub stopped : i < n → {x : S} → ((m : ℕ) → x ≡ answer (suc m) (drop p s)) → x ≡ answer n (drop at s)
     stopped h e = e _ ∙ rw (left n i h) at (r .status)
 
     -- the whole's answer is what the items behind the next one give
-    pub turn : i < n → ((m : ℕ) → answer m (drop w (drop p s)) ≡ answer (suc m) (drop p s)) → Reading (done ++ (item (drop p s) ∷ [])) (i + 1) (p + w)
+    pub turn : i < n → ((m : ℕ) → answer m (drop w (drop p s)) ≡ answer (suc m) (drop p s)) → Reading w item answer n s at (done ++ (item (drop p s) ∷ [])) (i + 1) (p + w)
     unfolding items
     turn h e =
         record {
@@ -72,7 +73,7 @@ module _ {X : Type 0} (k : Kind X) (f : X → Bool) (s : List ℕ) (at : ℕ) (o
 
 module _ {X : Type 0} {k : Kind X} {f : X → Bool} {s : List ℕ} {at : ℕ} {out₀ : List X} where
   pub read-begun : at + k .width * length out₀ ≤ length s → ReadingFigures k f s at out₀ out₀ 0 at
-  read-begun h = record { room = rw (sub-zero (length out₀)) h; same = refl; read = begun _ _ _ _ _ _ }
+  read-begun h = record { room = rw (sub-zero (length out₀)) h; same = refl; read = begun }
 
   module _ {out : List X} {i p : ℕ} (r : ReadingFigures k f s at out₀ out i p) where
     -- the next figure has its bytes, and what is left has its own
@@ -86,7 +87,7 @@ module _ {X : Type 0} {k : Kind X} {f : X → Bool} {s : List ℕ} {at : ℕ} {o
     -- the next figure is x: refused, or set
     pub read-stopped : {exit : List X} {x : X} → i < length out → x ≡ figureAt k (drop p s) → f x ≡ false → Read k f (drop at s) out₀ false exit
     unfolding all items
-    read-stopped h e t = record { status = stopped _ _ _ _ _ _ (r .read) (omega (arith, r .same)) (λ m. rw (← e, t)); made = λ e. no e }
+    read-stopped h e t = record { status = stopped (r .read) (omega (arith, r .same)) (λ m. rw (← e, t)); made = λ e. no e }
 
     pub read-turn : {x : X} → i < length out → x ≡ figureAt k (drop p s) → f x ≡ true → ReadingFigures k f s at out₀ (set out i x) (i + 1) (p + k .width)
     unfolding all items
@@ -94,13 +95,13 @@ module _ {X : Type 0} {k : Kind X} {f : X → Bool} {s : List ℕ} {at : ℕ} {o
         record {
           room = after-next h;
           same = length-set out i x ∙ r .same;
-          read = rw (add-one i, take-suc-set out i x h, ← (add-one i), e) (turn _ _ _ _ _ _ (r .read) (omega (arith, r .same)) (λ m. rw (← e, t)));
+          read = rw (add-one i, take-suc-set out i x h, ← (add-one i), e) (turn (r .read) (omega (arith, r .same)) (λ m. rw (← e, t)));
         }
 
     pub read-ended : length out ≤ i → Read k f (drop at s) out₀ true out
     unfolding all items
     read-ended h =
-        let w = ended _ _ _ _ _ _ (r .read) (omega (arith, r .same)) in
+        let w = ended (r .read) (omega (arith, r .same)) in
         record { status = w .0; made = λ _. sym (take-all i out h) ∙ w .1 }
 
 -- ---- testing each element of a list

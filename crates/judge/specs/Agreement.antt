@@ -8,7 +8,7 @@ use Rattle.integers.specs.Sums.{sum-cong, total-cong}
 use Rattle.fractions.specs.Greatest.{first-greatest-cong}
 use Rattle.judge.specs.System.{Row, Trial, System, row, residual, reach}
 use Rattle.judge.specs.Judgement.{within, factor, no-factor, first-unmet, deciding, judgement}
-use Rattle.judge.specs.Laws.{first-not-cong, deciding-below, at-residuals, at-reaches}
+use Rattle.judge.specs.Laws.{first-not-cong, deciding-below, deciding-is, at-residuals, at-reaches}
 use Rattle.judge.specs.Finding.{Finding, finding, Agrees}
 
 pub judgement-agrees : (s : System) (t : Trial) → 0 < s .n → s .n ≤ mostTanks → Agrees s t (finding (judgement s t))
@@ -18,8 +18,8 @@ judgement-agrees s t h k =
     record {
       met = refl;
       unmet = refl;
-      none = ap₂ no-factor (at-residuals s t k (deciding s t) d) (at-reaches s t k (deciding s t) d);
-      decides = refl;
+      none = rw (deciding-is s t k) (ap₂ no-factor (at-residuals s t k (deciding s t) d) (at-reaches s t k (deciding s t) d));
+      decides = ap suc (deciding-is s t k);
       R = at-residuals s t k;
       T = at-reaches s t k;
     }

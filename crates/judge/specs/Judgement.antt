@@ -38,10 +38,6 @@ first-not p (suc k) = or-else (first-not p k) (cond (p k) 0 (suc k))
 unfoldable pub first-unmet : System → Trial → ℕ
 first-unmet s t = first-not (λ i. within (residual (row s i) t) (reach (row s i) t)) (s .n)
 
--- the row that decides, counted from 0: the first that has no factor, or the first with the greatest
-unfoldable pub deciding : System → Trial → ℕ
-deciding s t = first-greatest (λ i. factor (residual (row s i) t) (reach (row s i) t)) (s .n)
-
 -- residual and reach of each row, in eight places
 abbrev pub residuals : System → Trial → List ℤ
 residuals s t = filled mostTanks (s .n) (pos 0) (λ i. residual (row s i) t)
@@ -49,29 +45,16 @@ residuals s t = filled mostTanks (s .n) (pos 0) (λ i. residual (row s i) t)
 abbrev pub reaches : System → Trial → List ℕ
 reaches s t = filled mostTanks (s .n) 0 (λ i. reach (row s i) t)
 
--- the whole judgement; whether the deciding row has a factor is read off its residual and reach
-unfoldable pub judgement : System → Trial → Judgement
-judgement s t =
-    record {
-      met = eqb (first-unmet s t) 0;
-      unmet = first-unmet s t;
-      none = no-factor (getD (residuals s t) (deciding s t) (pos 0)) (getD (reaches s t) (deciding s t) 0);
-      decides = suc (deciding s t);
-      residuals = residuals s t;
-      reaches = reaches s t;
-    }
-
--- ---- in two steps: what a trial leaves of each row decides whether it is met; the deciding row is looked for once, at the end
-
--- the first unmet row, with residual and reach of each
+-- what a trial leaves of the rows: the first unmet one, with residual and reach of each
 abbrev pub standing : System → Trial → Standing
 standing s t = record { unmet = first-unmet s t; residuals = residuals s t; reaches = reaches s t }
 
--- the row that decides, counted from 0, of n rows whose residuals and reaches stand in eight places
+-- the row that decides, counted from 0, of n rows whose residuals and reaches stand in eight places: the first that has no factor, or the first
+-- with the greatest
 unfoldable pub deciding-place : ℕ → Standing → ℕ
 deciding-place n p = first-greatest (λ i. factor (getD (p .residuals) i (pos 0)) (getD (p .reaches) i 0)) n
 
--- the judgement of n rows from their standing: that of a trial, where it is the trial's (`judgement-concluded` in Laws)
+-- what is said of n rows by what a trial leaves of them: met where none is unmet, and none where the row that decides has no factor
 unfoldable pub concluded : ℕ → Standing → Judgement
 concluded n p =
     record {
@@ -82,3 +65,12 @@ concluded n p =
       residuals = p .residuals;
       reaches = p .reaches;
     }
+
+-- the whole judgement of a trial. Whoever unfolds it sees what is concluded
+unfoldable pub judgement : System → Trial → Judgement
+unfolding concluded deciding-place
+judgement s t = concluded (s .n) (standing s t)
+
+-- the row that decides, by the rows themselves: the same (`deciding-is` in Laws)
+unfoldable pub deciding : System → Trial → ℕ
+deciding s t = first-greatest (λ i. factor (residual (row s i) t) (reach (row s i) t)) (s .n)

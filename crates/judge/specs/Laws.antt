@@ -111,14 +111,15 @@ module _ (s : System) (t : Trial) (h : s .n ≤ mostTanks) where
       → record { unmet = u; residuals = R; reaches = T } ≡ standing s t
   measured u R T eR eT eu = let u′ : u ≡ first-unmet s t = (rw (eR, eT) at eu) ∙ unmet-is in rw (eR, eT, u′)
 
-  deciding-is : deciding-place (s .n) (standing s t) ≡ deciding s t
+  -- the row that decides in the judgement is the one that the rows themselves say
+  pub deciding-is : deciding-place (s .n) (standing s t) ≡ deciding s t
   unfolding deciding-place deciding
   deciding-is = first-greatest-cong _ _ (s .n) (λ i l. ap₂ factor (at-residuals i l) (at-reaches i l))
 
   -- the judgement is concluded from the standing
   pub judgement-concluded : concluded (s .n) (standing s t) ≡ judgement s t
-  unfolding concluded judgement
-  judgement-concluded = rw deciding-is
+  unfolding judgement
+  judgement-concluded = refl
 
 -- the standing, from residuals and reaches that were formed each from its own part of the system
 pub measured-by-parts : (n : ℕ) (A : List ℤ) (E : List ℕ) (b : List ℤ) (f : List ℕ) (t : Trial) → n ≤ mostTanks → (u : ℕ) (R : List ℤ) (T : List ℕ)

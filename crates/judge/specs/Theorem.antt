@@ -1,23 +1,21 @@
 -- Every finding that agrees with the judgement is justified, for a trial brought and a trial worked out alike. Assumes nothing.
 use mathlib.Core.Path.{_≡_, refl, sym, ap, _∙_}
 use mathlib.Core.Bool.{Bool, true, false, not, _&&_}
-use Prim.Native.Nat.{ℕ, zero, suc, _*_, _-_, _≤_, _<_}
+use Prim.Native.Nat.{ℕ, zero, suc, _*_, _-_, _<_}
 use native.Mathlib.Nat.{mul-le-mul-right}
 use native.Mathlib.Omega.{arith}
 use borrow.Author.Tests.{leb-true, leb-false, eqb-true, eqb-false, ne-eqb}
 use lib.Dec.{eqb}
 use lib.IntN.{ℤ, natAbs}
-use Rattle.limits.specs.Limits.{mostTanks}
 use Rattle.fractions.specs.Fraction.{below}
 use Rattle.fractions.specs.Laws.{cross-from-base, cross-to-base}
 use Rattle.fractions.specs.Greatest.{First, first-greatest-is}
 use Rattle.judge.specs.System.{System, Trial, row, residual, reach}
 use Rattle.judge.specs.Changes.{Possible}
-use Rattle.judge.specs.Judgement.{within, factor, no-factor, first-unmet, deciding, judgement}
+use Rattle.judge.specs.Judgement.{within, factor, no-factor, first-unmet, deciding}
 use Rattle.judge.specs.Laws.{Fails, first-not-zero, first-not-suc}
-use Rattle.judge.specs.Agreement.{judgement-agrees}
 use Rattle.judge.specs.OettliPrager.{oettli-prager, within-tolerances, yielded-keep}
-use Rattle.judge.specs.Finding.{Finding, finding, factor-num, AllPossible, AllUnder, FirstImpossible, Least, Yields, Justified, Agrees}
+use Rattle.judge.specs.Finding.{Finding, factor-num, AllPossible, AllUnder, FirstImpossible, Least, Yields, Justified, Agrees}
 
 -- a fraction with a factor is proper; one without has a numerator over 0
 proper : (a b : ℕ) → eqb b 0 && not (eqb a 0) ≡ false → 0 < below a b
@@ -152,7 +150,3 @@ module _ (s : System) (t : Trial) (h : 0 < s .n) where
           none-if = λ f. not-false (w .none) (λ e. let k = least s t h (sym (a .none) ∙ e) in f _ _ (k .proper) (k .attained));
           decides-row = (omega (arith, a .decides), omega (arith, a .decides, greatest s t h .place));
         }
-
-  -- the judgement itself
-  pub judgement-justified : s .n ≤ mostTanks → Justified s t (finding (judgement s t))
-  judgement-justified k = justified (finding (judgement s t)) (judgement-agrees s t h k)

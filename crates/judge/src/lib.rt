@@ -256,11 +256,8 @@ pub fn judge<'a>(
     requires { ⌜ n ≤ mostTanks ⌝ }
     ensures { λ r. ⌜ r ≡ judgement (system n (now (coefficients .entry)) (now (tolerances .entry)) (now («right_sides» .entry)) (now («right_tolerances» .entry))) (trialOf n scale (now (trial .entry))) ⌝ }
 {
-    let mut judgement = Judgement {
-        met: false,
+    let mut standing = Standing {
         unmet: 0,
-        none: false,
-        decides: 0,
         residuals: [0i64; MOST_TANKS],
         reaches: [0u64; MOST_TANKS],
     };
@@ -270,7 +267,7 @@ pub fn judge<'a>(
         coefficients,
         right_sides,
         trial,
-        &mut judgement.residuals,
+        &mut standing.residuals,
     );
     fill_reaches(
         n,
@@ -278,14 +275,9 @@ pub fn judge<'a>(
         tolerances,
         right_tolerances,
         trial,
-        &mut judgement.reaches,
+        &mut standing.reaches,
     );
-    let unmet = first_beyond(n, &judgement.residuals, &judgement.reaches);
-    let at = greatest_factor(n, &judgement.residuals, &judgement.reaches);
-    let none = lacks_factor(judgement.residuals[at], judgement.reaches[at]);
-    judgement.met = unmet == 0;
-    judgement.unmet = unmet;
-    judgement.none = none;
-    judgement.decides = at + 1;
-    judgement
+    let unmet = first_beyond(n, &standing.residuals, &standing.reaches);
+    standing.unmet = unmet;
+    conclude(n, standing)
 }

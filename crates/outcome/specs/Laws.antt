@@ -54,9 +54,6 @@ first-check s b r e = let w = first-accepted s (check b r) e in (w .0, check-acc
 pub first-goes-on : (s t : Status) → s ≡ Accepted → t ≡ first s t
 first-goes-on s t e = rw e
 
--- where x is what the first of the two gave: it refused, or it passed and the second is a test
+-- where x is what the first of the two gave: it refused
 pub stops : {x s : Status} {r : Refusal} (t : Status) → x ≡ s → x ≡ Refused r → x ≡ first s t
 stops t e g = rw (← e, g)
-
-pub goes-on : {x s : Status} {b c : Bool} (r : Refusal) → x ≡ s → x ≡ Accepted → b ≡ c → check c r ≡ first s (check b r)
-goes-on r e g h = rw (← e, g, h)

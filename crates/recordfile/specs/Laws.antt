@@ -5,26 +5,24 @@ use Prim.Native.Nat.{ℕ, _≤_}
 use native.Mathlib.Omega.{arith}
 use lib.ListN.{length, getD, length-append}
 use lib.IntN.{ℤ, pos}
-use mir.Syntax.{w32, w64}
-use mir.Val.{ofZ}
 use Rattle.limits.specs.Limits.{mostTanks}
-use Rattle.bigendian.specs.NumberLaws.{length-bytes}
-use Rattle.bigendian.specs.Number.{bytes}
 use Rattle.buffer.specs.Buffer.{run}
 use Rattle.buffer.specs.RunLaws.{length-run}
+use Rattle.figures.specs.Figures.{i32, i64, u64, figureBytes}
+use Rattle.figures.specs.FigureLaws.{length-figure}
 use Rattle.fields.specs.Field.{endTag, endField}
 use Rattle.fields.specs.FieldLaws.{length-field}
 use Rattle.judge.specs.declared.Judgement.{Judgement}
-use Rattle.recordfile.specs.Layout.{pairSize, answerAt, rowsAt, factorAt, endAt, verdictTag, answerTag, rowsTag, factorTag, flag, figureAt, pairAt, verdictField, answerField, rowsField, factorField, judgedFields, recordOf, recordLength, longestRecord}
+use Rattle.recordfile.specs.Layout.{pairSize, answerAt, rowsAt, factorAt, endAt, verdictTag, answerTag, rowsTag, factorTag, flag, answerBytes, pairAt, verdictField, answerField, rowsField, factorField, judgedFields, recordOf, recordLength, longestRecord}
 
-pub length-figure : (Y : List ℤ) (j : ℕ) → length (figureAt Y j) ≡ 4
-length-figure Y j = length-bytes 4 (ofZ w32 (getD Y j (pos 0)))
+pub length-answer : (Y : List ℤ) (j : ℕ) → length (answerBytes Y j) ≡ i32 .width
+length-answer Y j = length-figure i32 (getD Y j (pos 0))
 
 pub length-pair : (R : List ℤ) (T : List ℕ) (i : ℕ) → length (pairAt R T i) ≡ pairSize
 length-pair R T i =
-    let r = ofZ w64 (getD R i (pos 0)) in
+    let r = getD R i (pos 0) in
     let t = getD T i 0 in
-    length-append (bytes 8 r) (bytes 8 t) ∙ omega (arith, length-bytes 8 r, length-bytes 8 t)
+    length-append (figureBytes i64 r) (figureBytes u64 t) ∙ omega (arith, length-figure i64 r, length-figure u64 t)
 
 -- ---- the fields one behind the other
 
@@ -44,7 +42,7 @@ module _ (n rounds : ℕ) (Y : List ℤ) (j : Judgement) where
   pub length-two : length first-two ≡ rowsAt n
   length-two =
       length-append first-one (answerField n Y)
-      ∙ omega (arith, length-one, length-field answerTag (run n (figureAt Y)), length-run 4 (figureAt Y) (length-figure Y) n)
+      ∙ omega (arith, length-one, length-field answerTag (run n (answerBytes Y)), length-run (i32 .width) (answerBytes Y) (length-answer Y) n)
 
   pub length-three : length first-three ≡ factorAt n
   length-three =

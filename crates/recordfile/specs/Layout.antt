@@ -5,12 +5,9 @@ use mathlib.Core.List.{List, [], _∷_, _++_}
 use Prim.Native.Nat.{ℕ, _+_, _*_, _≤_, _<_}
 use lib.ListN.{getD}
 use lib.IntN.{ℤ, pos}
-use mir.Syntax.{w64}
-use mir.Val.{ofZ}
 use Rattle.limits.specs.Limits.{mostTanks}
-use Rattle.bigendian.specs.Number.{bytes}
 use Rattle.buffer.specs.Buffer.{onto, run}
-use Rattle.figures.specs.Figures.{i32, figureBytes}
+use Rattle.figures.specs.Figures.{i32, i64, u64, figureBytes}
 use Rattle.fields.specs.Field.{headerSize, field, endField}
 use Rattle.judge.specs.declared.Judgement.{Judgement}
 
@@ -34,18 +31,18 @@ verdictLength = 3
 abbrev pub answerLength : ℕ → ℕ
 answerLength n = i32 .width * n
 
+-- where a row's reach stands in its pair, and how long the pair is: "that row's sixteen bytes"
+abbrev pub reachAt : ℕ
+reachAt = i64 .width
+
 abbrev pub pairSize : ℕ
-pairSize = 16
+pairSize = reachAt + u64 .width
 
 abbrev pub rowsLength : ℕ → ℕ
 rowsLength n = pairSize * n
 
 abbrev pub factorLength : ℕ
 factorLength = 2
-
--- where a row's reach stands in its pair
-abbrev pub reachAt : ℕ
-reachAt = 8
 
 -- where the parts of field 10 stand, which begins at 0
 abbrev pub metAt : ℕ
@@ -82,18 +79,18 @@ flag true = 1
 flag false = 0
 
 abbrev pub pair : ℤ → ℕ → List ℕ
-pair R T = bytes 8 (ofZ w64 R) ++ bytes 8 T
+pair R T = figureBytes i64 R ++ figureBytes u64 T
 
 -- "1 for met or 0 for not met; the first unmet row or 0; rounds used"
 abbrev pub verdictField : Bool → ℕ → ℕ → List ℕ
 verdictField met unmet rounds = field verdictTag (flag met ∷ unmet ∷ rounds ∷ [])
 
 -- "the answer, 4 bytes each": tank j's, from 0, and the first n figures of Y
-abbrev pub figureAt : List ℤ → ℕ → List ℕ
-figureAt Y j = figureBytes i32 (getD Y j (pos 0))
+abbrev pub answerBytes : List ℤ → ℕ → List ℕ
+answerBytes Y j = figureBytes i32 (getD Y j (pos 0))
 
 abbrev pub answerField : ℕ → List ℤ → List ℕ
-answerField n Y = field answerTag (run n (figureAt Y))
+answerField n Y = field answerTag (run n (answerBytes Y))
 
 -- "Each row's pair is written into that row's sixteen bytes": row i's, from 0
 abbrev pub pairAt : List ℤ → List ℕ → ℕ → List ℕ

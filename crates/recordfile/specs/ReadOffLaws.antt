@@ -1,40 +1,33 @@
 -- What is read off a record is what was written into it. Assumes nothing.
-use mathlib.Core.Path.{_≡_, refl, sym, ap, ap₂, _∙_}
+use mathlib.Core.Path.{_≡_, refl, sym, ap, _∙_}
 use mathlib.Core.Bool.{Bool, true, false}
 use mathlib.Core.List.{List, _++_, append-assoc}
 use Prim.Native.Nat.{ℕ, _+_, _*_, _^_, _<_}
 use native.Mathlib.Omega.{arith}
 use lib.Dec.{eqb}
-use lib.ListN.{length, getD, take, drop}
-use lib.Seq.{take-at, drop-at, drop-drop, getD-append-add}
+use lib.ListN.{length, getD, drop}
+use lib.Seq.{drop-at, drop-drop, getD-append-add}
 use lib.IntN.{ℤ, pos}
 use mir.Syntax.{w32, w64}
-use mir.Val.{SFits, toZ, ofZ}
+use mir.Val.{SFits}
 use mir.Facts.{toZ-ofZ, fits-ofZ}
-use Rattle.bigendian.specs.Number.{be, bytes}
-use Rattle.bigendian.specs.NumberLaws.{length-bytes, be-bytes}
+use Rattle.bigendian.specs.Number.{bytes}
 use Rattle.buffer.specs.Buffer.{run}
 use Rattle.buffer.specs.RunLaws.{Piece, run-piece}
+use Rattle.figures.specs.Figures.{i32, i64, u64, figureAt, figureBytes}
+use Rattle.figures.specs.FigureLaws.{length-figure, figure-back}
 use Rattle.fields.specs.Field.{headerSize, field, header, endField}
 use Rattle.fields.specs.FieldLaws.{length-header}
 use Rattle.judge.specs.declared.Judgement.{Judgement}
-use Rattle.recordfile.specs.Layout.{answerTag, rowsTag, pairSize, answerAt, rowsAt, factorAt, flag, figureAt, pairAt, answerField, rowsField, factorField, judgedFields, recordOf}
-use Rattle.recordfile.specs.Laws.{first-one, first-two, first-three, length-figure, length-pair, length-one, length-two, length-three}
-use Rattle.recordfile.specs.ReadOff.{number, recordedRounds, recordedAnswer, recordedFinding}
+use Rattle.recordfile.specs.Layout.{answerTag, rowsTag, pairSize, reachAt, answerAt, rowsAt, factorAt, flag, answerBytes, pairAt, answerField, rowsField, factorField, judgedFields, recordOf}
+use Rattle.recordfile.specs.Laws.{first-one, first-two, first-three, length-answer, length-pair, length-one, length-two, length-three}
+use Rattle.recordfile.specs.ReadOff.{recordedRounds, recordedAnswer, recordedFinding}
 
--- ---- numbers at places
-
--- behind a part of known length
-number-behind : (w at k : ℕ) (p q : List ℕ) → length p ≡ at → number w (at + k) (p ++ q) ≡ number w k q
-number-behind w at k p q e = ap (λ l. be (take w l)) (sym (drop-drop k at (p ++ q)) ∙ ap (drop k) (drop-at p q at e))
-
--- at the front
-number-front : (w x : ℕ) (q : List ℕ) → x < 256 ^ w → number w 0 (bytes w x ++ q) ≡ x
-number-front w x q h = ap be (take-at (bytes w x) q w (length-bytes w x)) ∙ be-bytes w x h
-
--- a number k bytes into piece i
-piece-number : (u w i k : ℕ) (piece : ℕ → List ℕ) (l : List ℕ) (p : Piece w i piece l) → number u (w * i + k) l ≡ number u k (piece i ++ p .behind)
-piece-number u w i k piece l p = ap (λ m. be (take u m)) (sym (drop-drop k (w * i) l) ∙ ap (drop k) (p .here))
+-- what stands k bytes into the last of three parts
+in-third : (x y k : ℕ) (a b c : List ℕ) → length a ≡ x → length b ≡ y → drop (x + y + k) (a ++ (b ++ c)) ≡ drop k c
+in-third x y k a b c e g =
+    sym (drop-drop k (x + y) (a ++ (b ++ c)))
+    ∙ ap (drop k) (sym (drop-drop y x (a ++ (b ++ c))) ∙ ap (drop y) (drop-at a (b ++ c) x e) ∙ drop-at b c y g)
 
 flag-eqb : (b : Bool) → eqb (flag b) 1 ≡ b
 flag-eqb true = refl
@@ -72,7 +65,7 @@ module _ (n rounds : ℕ) (Y : List ℤ) (j : Judgement) where
   WA = first-two n rounds Y j
 
   abbrev figures : List ℕ
-  figures = run n (figureAt Y)
+  figures = run n (answerBytes Y)
 
   abbrev pairs : List ℕ
   pairs = run n (pairAt (j .residuals) (j .reaches))
@@ -104,15 +97,11 @@ module _ (n rounds : ℕ) (Y : List ℤ) (j : Judgement) where
   pub recorded-answer : (i : ℕ) → i < n → SFits w32 (getD Y i (pos 0)) → recordedAnswer (recordOf n rounds Y j) i ≡ getD Y i (pos 0)
   recorded-answer i h f =
       let rest = rowsField n (j .residuals) (j .reaches) ++ last in
-      let p = run-piece 4 (figureAt Y) (length-figure Y) n i rest h in
-      let e : answerAt + headerSize + 4 * i ≡ answerAt + (headerSize + (4 * i + 0)) = omega arith in
-      ap (toZ w32)
-      (ap₂ (λ k l. number 4 k l) e from-answer
-      ∙ number-behind 4 answerAt (headerSize + (4 * i + 0)) W (header answerTag (length figures) ++ (figures ++ rest)) (length-one n rounds Y j)
-      ∙ number-behind 4 headerSize (4 * i + 0) (header answerTag (length figures)) (figures ++ rest) (length-header answerTag (length figures))
-      ∙ piece-number 4 4 i 0 (figureAt Y) (figures ++ rest) p
-      ∙ number-front 4 (ofZ w32 (getD Y i (pos 0))) (p .behind) (fits-ofZ {w = w32} f .fits))
-      ∙ toZ-ofZ f
+      let p = run-piece (i32 .width) (answerBytes Y) (length-answer Y) n i rest h in
+      let k = length figures in
+      ap (λ l. figureAt i32 (drop (answerAt + headerSize + i32 .width * i) l)) from-answer
+      ∙ ap (figureAt i32) (in-third answerAt headerSize (i32 .width * i) W (header answerTag k) (figures ++ rest) (length-one n rounds Y j) (length-header answerTag k) ∙ p .here)
+      ∙ figure-back i32 (getD Y i (pos 0)) (fits-ofZ {w = w32} f .fits) (toZ-ofZ f) (p .behind)
 
   -- ---- field 12
 
@@ -123,32 +112,29 @@ module _ (n rounds : ℕ) (Y : List ℤ) (j : Judgement) where
     here : Piece pairSize i piece (pairs ++ last)
     here = run-piece pairSize piece (length-pair (j .residuals) (j .reaches)) n i last h
 
-    -- k bytes into row i's pair
-    row-number : (k : ℕ) → number 8 (rowsAt n + (headerSize + (pairSize * i + k))) (recordOf n rounds Y j) ≡ number 8 k (piece i ++ here .behind)
-    row-number k =
-        ap (number 8 (rowsAt n + (headerSize + (pairSize * i + k)))) from-rows
-        ∙ number-behind 8 (rowsAt n) (headerSize + (pairSize * i + k)) WA (header rowsTag (length pairs) ++ (pairs ++ last)) (length-two n rounds Y j)
-        ∙ number-behind 8 headerSize (pairSize * i + k) (header rowsTag (length pairs)) (pairs ++ last) (length-header rowsTag (length pairs))
-        ∙ piece-number 8 pairSize i k piece (pairs ++ last) here
+    abbrev from-reach : List ℕ
+    from-reach = figureBytes u64 (T i) ++ here .behind
+
+    -- row i's pair, with what follows it
+    row-place : drop (rowsAt n + headerSize + pairSize * i) (recordOf n rounds Y j) ≡ figureBytes i64 (R i) ++ from-reach
+    row-place =
+        let k = length pairs in
+        ap (drop (rowsAt n + headerSize + pairSize * i)) from-rows
+        ∙ in-third (rowsAt n) headerSize (pairSize * i) WA (header rowsTag k) (pairs ++ last) (length-two n rounds Y j) (length-header rowsTag k)
+        ∙ here .here
+        ∙ append-assoc (figureBytes i64 (R i)) (figureBytes u64 (T i)) (here .behind)
 
     pub recorded-residual : SFits w64 (R i) → recordedFinding n (recordOf n rounds Y j) .R i ≡ R i
-    recorded-residual f =
-        let e : rowsAt n + headerSize + pairSize * i ≡ rowsAt n + (headerSize + (pairSize * i + 0)) = omega arith in
-        ap (toZ w64)
-        (ap (λ m. number 8 m (recordOf n rounds Y j)) e
-        ∙ row-number 0
-        ∙ ap (number 8 0) (append-assoc (bytes 8 (ofZ w64 (R i))) (bytes 8 (T i)) (here .behind))
-        ∙ number-front 8 (ofZ w64 (R i)) (bytes 8 (T i) ++ here .behind) (fits-ofZ {w = w64} f .fits))
-        ∙ toZ-ofZ f
+    recorded-residual f = ap (figureAt i64) row-place ∙ figure-back i64 (R i) (fits-ofZ {w = w64} f .fits) (toZ-ofZ f) from-reach
 
-    pub recorded-reach : T i < 256 ^ 8 → recordedFinding n (recordOf n rounds Y j) .T i ≡ T i
-    recorded-reach f =
-        let e : rowsAt n + headerSize + pairSize * i + 8 ≡ rowsAt n + (headerSize + (pairSize * i + 8)) = omega arith in
-        ap (λ m. number 8 m (recordOf n rounds Y j)) e
-        ∙ row-number 8
-        ∙ ap (number 8 8) (append-assoc (bytes 8 (ofZ w64 (R i))) (bytes 8 (T i)) (here .behind))
-        ∙ number-behind 8 8 0 (bytes 8 (ofZ w64 (R i))) (bytes 8 (T i) ++ here .behind) (length-bytes 8 (ofZ w64 (R i)))
-        ∙ number-front 8 (T i) (here .behind) f
+    reach-place : drop (rowsAt n + headerSize + pairSize * i + reachAt) (recordOf n rounds Y j) ≡ from-reach
+    reach-place =
+        sym (drop-drop reachAt (rowsAt n + headerSize + pairSize * i) (recordOf n rounds Y j))
+        ∙ ap (drop reachAt) row-place
+        ∙ drop-at (figureBytes i64 (R i)) from-reach reachAt (length-figure i64 (R i))
+
+    pub recorded-reach : T i < 256 ^ u64 .width → recordedFinding n (recordOf n rounds Y j) .T i ≡ T i
+    recorded-reach f = ap (figureAt u64) reach-place ∙ figure-back u64 (T i) f refl (here .behind)
 
   -- ---- field 13
 

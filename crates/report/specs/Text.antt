@@ -1,6 +1,6 @@
 -- What is printed of a judged case, and of a refusal, byte for byte: document 01's "Printed verdict". Definitions only. Assumes nothing.
 use mathlib.Core.Path.{_≡_}
-use mathlib.Core.Bool.{Bool, true, false, cond, _&&_}
+use mathlib.Core.Bool.{Bool, cond, _&&_}
 use mathlib.Core.List.{List, [], _∷_, _++_}
 use Prim.Native.Nat.{ℕ, _+_, _*_}
 use lib.Dec.{leb}
@@ -35,8 +35,7 @@ labelled word x = word ++ digits x
 
 -- "`met row 0 rounds 1`", or "`unmet`": the first unmet row, or 0, and the rounds used
 abbrev pub verdict-word : Bool → List ℕ
-verdict-word true = ascii "met row "
-verdict-word false = ascii "unmet row "
+verdict-word met = cond met (ascii "met row ") (ascii "unmet row ")
 
 unfoldable pub verdict-line : Bool → ℕ → ℕ → List ℕ
 verdict-line met row rounds = joined (labelled (verdict-word met) row ∷ labelled (ascii " rounds ") rounds ∷ line-feed ∷ [])
@@ -52,8 +51,7 @@ row-line row residual reach =
 
 -- "`factor row 1`", or "`factor none row 1`": the row that decides
 abbrev pub factor-word : Bool → List ℕ
-factor-word true = ascii "factor none row "
-factor-word false = ascii "factor row "
+factor-word none = cond none (ascii "factor none row ") (ascii "factor row ")
 
 unfoldable pub factor-line : Bool → ℕ → List ℕ
 factor-line none row = joined (labelled (factor-word none) row ∷ line-feed ∷ [])

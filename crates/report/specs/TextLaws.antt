@@ -1,22 +1,17 @@
--- How long the lines are, and that a whole text and a refusal have room; what is printed where the case is one and the buffer has the room.
+-- How long the lines and a refusal are at most.
 -- Assumes nothing.
-use mathlib.Core.Path.{_≡_}
 use mathlib.Core.Bool.{Bool, true, false}
 use mathlib.Core.List.{List, [], _∷_}
-use Prim.Native.Nat.{ℕ, suc, _+_, _*_, _^_, _≤_, _<_}
-use native.Mathlib.Nat.{lt-of-le-of-lt, lt-of-lt-of-le}
+use Prim.Native.Nat.{ℕ, suc, _+_, _^_, _≤_, _<_}
 use native.Mathlib.Omega.{arith}
-use borrow.Author.Tests.{le-leb, lt-leb}
-use lib.Dec.{lit<, lit≤}
 use lib.ListN.{length, length-append}
 use lib.IntN.{ℤ, natAbs}
-use Rattle.limits.specs.Limits.{mostTanks, mostExponent}
-use Rattle.buffer.specs.RunLaws.{run-within}
+use Rattle.limits.specs.Limits.{mostExponent}
 use Rattle.decimal.specs.Buffer.{ascii, joined}
 use Rattle.decimal.specs.Decimal.{digits, signed, fixed-point}
 use Rattle.decimal.specs.DigitLaws.{length-digits}
 use Rattle.decimal.specs.ReadingLaws.{length-signed, length-fixed-point}
-use Rattle.report.specs.Text.{Report, answer-lines, row-lines, labelled, line-feed, verdict-word, verdict-line, answer-line, row-line, factor-word, factor-line, text, verdict-room, answer-room, row-room, factor-room, text-room, refusal-text, refusal-room, printed, printed-refusal}
+use Rattle.report.specs.Text.{labelled, line-feed, verdict-word, verdict-line, answer-line, row-line, factor-word, factor-line, verdict-room, answer-room, row-room, factor-room, refusal-text, refusal-room}
 
 -- ---- a text from the bounds of its parts
 
@@ -87,60 +82,3 @@ length-refusal number h =
     length-joined (labelled (ascii "refused ") number ∷ line-feed ∷ []) (11 ∷ 1 ∷ [])
     (some (length-labelled 2 (ascii "refused ") number h)
     (some (omega arith) none))
-
--- ---- the whole text
-
--- what the types of a case's and a judgement's figures admit
-pub record Within (r : Report) : Type 0 where
-  pub tanks : r .n ≤ mostTanks
-  pub exponent : r .exponent ≤ mostExponent
-  pub rounds : r .rounds < 2 ^ 64
-  pub unmet : r .found .unmet < 2 ^ 64
-  pub decides : r .found .decides < 2 ^ 64
-  pub answer : (j : ℕ) → j < r .n → natAbs (r .answer j) ≤ 2 ^ 31
-  pub residual : (i : ℕ) → i < r .n → natAbs (r .found .R i) ≤ 2 ^ 63
-  pub reach : (i : ℕ) → i < r .n → r .found .T i < 2 ^ 64
-
-pub length-text : (r : Report) → Within r → length (text r) ≤ text-room
-unfolding text
-length-text r w =
-    let A : List ℕ = answer-lines (r .n) (r .exponent) (r .answer) in
-    let R : List ℕ = row-lines (r .n) (r .found .R) (r .found .T) in
-    let a : length A ≤ r .n * answer-room =
-    run-within answer-room (λ j. answer-line (r .exponent) (j + 1) (r .answer j)) (r .n)
-    (λ j h. length-answer-line (r .exponent) (j + 1) (r .answer j) (omega (arith, w .exponent)) (omega (arith, w .tanks)) (lt-of-le-of-lt (w .answer j h) (lit< tt))) in
-    let b : length R ≤ r .n * row-room =
-    run-within row-room (λ i. row-line (i + 1) (r .found .R i) (r .found .T i)) (r .n)
-    (λ i h. length-row-line (i + 1) (r .found .R i) (r .found .T i) (omega (arith, w .tanks)) (lt-of-le-of-lt (w .residual i h) (lit< tt)) (lt-of-lt-of-le (w .reach i h) (lit≤ tt))) in
-    length-joined (verdict-line (r .found .met) (r .found .unmet) (r .rounds) ∷ A ∷ R ∷ factor-line (r .found .none) (r .found .decides) ∷ [])
-    (verdict-room ∷ mostTanks * answer-room ∷ mostTanks * row-room ∷ factor-room ∷ [])
-    (some (length-verdict-line (r .found .met) (r .found .unmet) (r .rounds) (lt-of-lt-of-le (w .unmet) (lit≤ tt)) (lt-of-lt-of-le (w .rounds) (lit≤ tt)))
-    (some (omega (arith, w .tanks))
-    (some (omega (arith, w .tanks))
-    (some (length-factor-line (r .found .none) (r .found .decides) (lt-of-lt-of-le (w .decides) (lit≤ tt))) none))))
-
--- ---- what is printed
-
-pub printed-whole : (room : ℕ) (r : Report) → r .n ≤ mostTanks → r .exponent ≤ mostExponent → text-room ≤ room → printed room r ≡ text r
-unfolding printed
-printed-whole room r h k l = rw (le-leb (r .n) mostTanks h, le-leb (r .exponent) mostExponent k, le-leb text-room room l)
-
-pub printed-refusal-whole : (room number : ℕ) → refusal-room ≤ room → printed-refusal room number ≡ refusal-text number
-unfolding printed-refusal
-printed-refusal-whole room number h = rw (le-leb refusal-room room h)
-
-pub printed-many-tanks : (room : ℕ) (r : Report) → mostTanks < r .n → printed room r ≡ []
-unfolding printed
-printed-many-tanks room r h = rw (lt-leb (r .n) mostTanks h)
-
-pub printed-large-exponent : (room : ℕ) (r : Report) → r .n ≤ mostTanks → mostExponent < r .exponent → printed room r ≡ []
-unfolding printed
-printed-large-exponent room r h k = rw (le-leb (r .n) mostTanks h, lt-leb (r .exponent) mostExponent k)
-
-pub printed-short-buffer : (room : ℕ) (r : Report) → r .n ≤ mostTanks → r .exponent ≤ mostExponent → room < text-room → printed room r ≡ []
-unfolding printed
-printed-short-buffer room r h k l = rw (le-leb (r .n) mostTanks h, le-leb (r .exponent) mostExponent k, lt-leb text-room room l)
-
-pub printed-refusal-short-buffer : (room number : ℕ) → room < refusal-room → printed-refusal room number ≡ []
-unfolding printed-refusal
-printed-refusal-short-buffer room number h = rw (lt-leb refusal-room room h)

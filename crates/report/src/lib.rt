@@ -6,12 +6,13 @@ use decimal::write_unsigned;
 use judge::Judgement;
 use limits::MOST_EXPONENT;
 use limits::MOST_TANKS;
+ghost use mathlib.Core.Bool.{cond};
 ghost use Prim.Native.Nat.{_+_, _*_, _≤_, _<_};
 ghost use lib.ListN.{length, getD};
 ghost use lib.IntN.{pos};
 ghost use Rattle.limits.specs.Limits.{mostTanks, mostExponent};
 ghost use Rattle.decimal.specs.Buffer.{Room, Wrote};
-ghost use Rattle.report.specs.Text.{report, labelled, «verdict-word», «verdict-line», «answer-line», «row-line», «factor-word», «factor-line», «answer-lines», «row-lines», «verdict-room», «answer-room», «row-room», «factor-room», «text-room», text, printed, «printed-refusal», Printed};
+ghost use Rattle.report.specs.Text.{report, labelled, «verdict-line», «answer-line», «row-line», «factor-line», «answer-lines», «row-lines», «verdict-room», «answer-room», «row-room», «factor-room», «text-room», text, printed, «printed-refusal», Printed};
 ghost use Rattle.report.specs.Lines.{WroteWithin};
 
 // A buffer of this many bytes is enough for every report.
@@ -29,14 +30,22 @@ fn write_labelled(word: &[u8], x: u64, at: usize, out: &mut [u8]) -> usize
     write_unsigned(x, next, out)
 }
 
-fn write_verdict(met: bool, row: u64, at: usize, out: &mut [u8]) -> usize
-    requires { ⌜ Room (labelled (verdict-word met) row) at (now out) ⌝ }
-    ensures { λ r. ⌜ Wrote (labelled (verdict-word met) row) at (now (out .entry)) r (now (out .exit)) ⌝ }
+// One of two words, and a whole number behind it.
+fn write_either<'a>(
+    which: bool,
+    yes: &'a [u8],
+    no: &'a [u8],
+    x: u64,
+    at: usize,
+    out: &mut [u8],
+) -> usize
+    requires { ⌜ Room (labelled (cond which (now yes) (now no)) x) at (now out) ⌝ }
+    ensures { λ r. ⌜ Wrote (labelled (cond which (now (yes .entry)) (now (no .entry))) x) at (now (out .entry)) r (now (out .exit)) ⌝ }
 {
-    if met {
-        return write_labelled(b"met row ", row, at, out);
+    if which {
+        return write_labelled(yes, x, at, out);
     }
-    write_labelled(b"unmet row ", row, at, out)
+    write_labelled(no, x, at, out)
 }
 
 // The verdict, the first unmet row or 0, and the rounds used.
@@ -44,7 +53,7 @@ fn write_verdict_line(met: bool, row: u64, rounds: u64, at: usize, out: &mut [u8
     requires { ⌜ at + verdict-room ≤ length (now out) ⌝ }
     ensures { λ r. ⌜ WroteWithin verdict-room (verdict-line met row rounds) at (now (out .entry)) r (now (out .exit)) ⌝ }
 {
-    let after_row = write_verdict(met, row, at, out);
+    let after_row = write_either(met, b"met row ", b"unmet row ", row, at, out);
     let after_rounds = write_labelled(b" rounds ", rounds, after_row, out);
     write_bytes(b"\n", after_rounds, out)
 }
@@ -72,22 +81,12 @@ fn write_row_line(row: u64, residual: i64, reach: u64, at: usize, out: &mut [u8]
     write_bytes(b"\n", after_reach, out)
 }
 
-fn write_factor(none: bool, row: u64, at: usize, out: &mut [u8]) -> usize
-    requires { ⌜ Room (labelled (factor-word none) row) at (now out) ⌝ }
-    ensures { λ r. ⌜ Wrote (labelled (factor-word none) row) at (now (out .entry)) r (now (out .exit)) ⌝ }
-{
-    if none {
-        return write_labelled(b"factor none row ", row, at, out);
-    }
-    write_labelled(b"factor row ", row, at, out)
-}
-
 // The row that decides, and whether it has a factor.
 fn write_factor_line(none: bool, row: u64, at: usize, out: &mut [u8]) -> usize
     requires { ⌜ at + factor-room ≤ length (now out) ⌝ }
     ensures { λ r. ⌜ WroteWithin factor-room (factor-line none row) at (now (out .entry)) r (now (out .exit)) ⌝ }
 {
-    let after_row = write_factor(none, row, at, out);
+    let after_row = write_either(none, b"factor none row ", b"factor row ", row, at, out);
     write_bytes(b"\n", after_row, out)
 }
 

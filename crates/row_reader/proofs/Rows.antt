@@ -65,7 +65,7 @@ module _ (s : List ℕ) (at n : ℕ) (lists₀ : Block) where
     pub read : Reading (rowSize n) (rowAt n) (rowsStatus n) n s at done i p
 
   pub begun-rows : RowsRoom n lists₀ → ReadingRows lists₀ 0 0 at
-  begun-rows r = record { room = r; place = sym (zero-mul n); done = []; sound = none; count = refl; is = refl; read = begun _ _ _ _ _ _ }
+  begun-rows r = record { room = r; place = sym (zero-mul n); done = []; sound = none; count = refl; is = refl; read = begun }
 
   module _ {lists : Block} {i from p : ℕ} (r : ReadingRows lists i from p) where
     counted : Counts from i (together (r .done))
@@ -80,7 +80,7 @@ module _ (s : List ℕ) (at n : ℕ) (lists₀ : Block) where
 
     pub stopped-rows : i < n → (x : Status) (q : Refusal) → x ≡ rowStatus n (drop p s) → x ≡ Refused q → (exit : Block) → RowsRead n (drop at s) lists₀ x exit
     unfolding rowsStatus
-    stopped-rows h x q e g exit = record { status = stopped _ _ _ _ _ _ (r .read) h (λ m. stops _ e g); made = λ y. not-both x q g y }
+    stopped-rows h x q e g exit = record { status = stopped (r .read) h (λ m. stops _ e g); made = λ y. not-both x q g y }
 
     -- the next row is whole
     pub past : (x : Status) → x ≡ rowStatus n (drop p s) → x ≡ Accepted → p + rowSize n ≤ length s
@@ -107,11 +107,11 @@ module _ (s : List ℕ) (at n : ℕ) (lists₀ : Block) where
           sound = rows-more (r .sound) so;
           count = length-append (r .done) (row ∷ []) ∙ omega (arith, r .count);
           is = over-more (together (r .done)) counted lists₀ lists (r .is) row (counts so) ∙ rw (together-more (r .done) row);
-          read = rw made (turn _ _ _ _ _ _ (r .read) h (λ m. first-goes-on (rowStatus n (drop p s)) _ acc));
+          read = rw made (turn (r .read) h (λ m. first-goes-on (rowStatus n (drop p s)) _ acc));
         })
 
     pub ended-rows : n ≤ i → RowsRead n (drop at s) lists₀ Accepted lists
     unfolding rowsStatus
     ended-rows h =
-        let w = ended _ _ _ _ _ _ (r .read) h in
+        let w = ended (r .read) h in
         record { status = w .0; made = λ _. rw (← (w .1), ← (r .is)) }

@@ -3,11 +3,8 @@ use borrow.Author.Needs.{needs}
 use Rattle.ballast.proofs.answered.Statement.{statement}
 use Rattle.ballast.proofs.answered.Tie as tie
 
-file-status-requires : tie.Need-file-status-requires
-file-status-requires c κs = search needs
-
 returns : tie.Need-returns
 returns c = rw (c .before .before .file-status .ensures)
 
 pub answered-spec : {M : Type 1} → statement M
-answered-spec = tie.close (tie.spec file-status-requires returns)
+answered-spec = tie.close (tie.spec (λ c κs. search needs) returns)

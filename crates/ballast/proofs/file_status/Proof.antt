@@ -5,18 +5,6 @@ use borrow.Author.Needs.{needs}
 use Rattle.ballast.proofs.file_status.Statement.{statement}
 use Rattle.ballast.proofs.file_status.Tie as tie
 
-enum-told : tie.Need-enum-told
-enum-told c = search needs
-
-enum-told-2 : tie.Need-enum-told-2
-enum-told-2 c = search needs
-
-enum-told-3 : tie.Need-enum-told-3
-enum-told-3 c = search needs
-
-returns : tie.Need-returns
-returns c = search needs
-
 returns-2 : tie.Need-returns-2
 returns-2 c = ap status-of (sym (c .enum-told2 .given .1))
 
@@ -25,4 +13,4 @@ returns-3 c = ap status-of (sym (c .enum-told3 .given .1))
 
 pub file-status-spec : {M : Type 1} → statement M
 file-status-spec =
-    tie.close (tie.spec enum-told enum-told-2 enum-told-3 returns returns-2 returns-3)
+    tie.close (tie.spec (λ c. search needs) (λ c. search needs) (λ c. search needs) (λ c. search needs) returns-2 returns-3)

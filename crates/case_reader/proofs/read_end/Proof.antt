@@ -1,14 +1,11 @@
 -- `case_reader::read_end` meets its contract: the field's refusal, then whether the input ends with it.
 -- Assumes nothing.
 use native.Mathlib.Omega.{arith}
-use mathlib.Core.Path.{ap, _∙_}
-use Prim.Native.Nat.{ℕ}
+use mathlib.Core.Path.{sym, _∙_}
 use lib.ListN.{length-drop}
-use lib.Dec.{eqb}
 use denote.Ref.{now}
-use Rattle.outcome.specs.declared.Refusal.the-variants.{TrailingBytes}
-use Rattle.outcome.specs.Laws.{stops, goes-on}
-use Rattle.fields.specs.Field.{endTag, endLength, endSize}
+use Rattle.outcome.specs.Laws.{stops, first-goes-on}
+use Rattle.fields.specs.Field.{endTag, endLength}
 use Rattle.fields.specs.FieldLaws.{field-room-at}
 use Rattle.casefile.specs.Decode.{endStatus}
 use borrow.Author.Needs.{needs}
@@ -31,7 +28,7 @@ returns-2 c =
     let k = c .before .before .before in
     let a = k .before .before .args in
     c .check .ensures
-    ∙ goes-on TrailingBytes (k .check-field .ensures) (c .before .enum-told2 .given .1) (ap (λ (m : ℕ). eqb m endSize) (length-drop (a .at) (now (a .s))))
+    ∙ rw (length-drop (a .at) (now (a .s))) (first-goes-on _ _ (sym (k .check-field .ensures) ∙ c .before .enum-told2 .given .1))
 
 pub read-end-spec : {M : Type 1} → statement M
 read-end-spec =

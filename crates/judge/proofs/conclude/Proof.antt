@@ -26,9 +26,6 @@ module _ (c : tie.After-greatest-factor) where
   place : c .greatest-factor .result < mostTanks
   place = rw (c .greatest-factor .ensures) (first-greatest-below _ (begun .args .n) mostTanks (begun .pre) (omega arith))
 
-greatest-factor-requires : tie.Need-greatest-factor-requires
-greatest-factor-requires c κs = search needs
-
 mul-lacks-factor : tie.Need-mul-lacks-factor
 mul-lacks-factor c = omega (arith, place c)
 
@@ -40,9 +37,6 @@ mul-lacks-factor-2 c = omega (arith, place (c .before))
 
 element-copy-out-lacks-factor-2 : tie.Need-element-copy-out-lacks-factor-2
 element-copy-out-lacks-factor-2 c = place (c .before)
-
-lacks-factor-requires : tie.Need-lacks-factor-requires
-lacks-factor-requires c κs = search needs
 
 add-t19 : tie.Need-add-t19
 add-t19 c = omega (arith, place (c .before .before .before .before .before))
@@ -57,11 +51,11 @@ pub conclude-spec : {M : Type 1} → statement M
 conclude-spec =
     tie.close
     (tie.spec
-    greatest-factor-requires
+    (λ c κs. search needs)
     mul-lacks-factor
     element-copy-out-lacks-factor
     mul-lacks-factor-2
     element-copy-out-lacks-factor-2
-    lacks-factor-requires
+    (λ c κs. search needs)
     add-t19
     returns)

@@ -4,15 +4,6 @@ use borrow.Author.Needs.{needs}
 use Rattle.judge.proofs.exceeds.Statement.{statement}
 use Rattle.judge.proofs.exceeds.Tie as tie
 
-magnitude-requires : tie.Need-magnitude-requires
-magnitude-requires c κs = search needs
-
-magnitude-requires-2 : tie.Need-magnitude-requires-2
-magnitude-requires-2 c κs = search needs
-
-exceeds-requires : tie.Need-exceeds-requires
-exceeds-requires c κs = search needs
-
 returns : tie.Need-returns
 returns c =
     let a = c .before .before .before in
@@ -23,4 +14,4 @@ returns c =
     rw (m, k) at (c .exceeds .ensures)
 
 pub exceeds-spec : {M : Type 1} → statement M
-exceeds-spec = tie.close (tie.spec magnitude-requires magnitude-requires-2 exceeds-requires returns)
+exceeds-spec = tie.close (tie.spec (λ c κs. search needs) (λ c κs. search needs) (λ c κs. search needs) returns)

@@ -30,28 +30,10 @@ mul-row-reach : tie.Need-mul-row-reach Inv-loop μ-loop
 mul-row-reach c =
     omega (arith, row-inside mostTanks (c .before .before .args .n) (c .before .loop .i) (c .before .before .pre .0) (omega arith))
 
-mul-row-reach-2 : tie.Need-mul-row-reach-2 Inv-loop μ-loop
-mul-row-reach-2 c = search needs
-
-element-copy-out-row-reach : tie.Need-element-copy-out-row-reach Inv-loop μ-loop
-element-copy-out-row-reach c = search needs
-
 row-reach-requires : tie.Need-row-reach-requires Inv-loop μ-loop
 row-reach-requires c κs =
     let g = c .before .before .before in
     (g .pre .0, row-inside mostTanks (g .args .n) (c .before .before .loop .i) (g .pre .0) (omega arith))
-
-mul-reaches : tie.Need-mul-reaches Inv-loop μ-loop
-mul-reaches c = search needs
-
-element-write-reaches : tie.Need-element-write-reaches Inv-loop μ-loop
-element-write-reaches c = search needs
-
-add-i : tie.Need-add-i Inv-loop μ-loop
-add-i c = search needs
-
-loop-less : tie.Need-loop-less Inv-loop μ-loop
-loop-less c = search needs
 
 loop-again : tie.Need-loop-again Inv-loop μ-loop
 unfolding reach
@@ -69,12 +51,12 @@ fill-reaches-spec =
     μ-loop
     loop-holds
     mul-row-reach
-    mul-row-reach-2
-    element-copy-out-row-reach
+    (λ c. search needs)
+    (λ c. search needs)
     row-reach-requires
-    mul-reaches
-    element-write-reaches
-    add-i
-    loop-less
+    (λ c. search needs)
+    (λ c. search needs)
+    (λ c. search needs)
+    (λ c. search needs)
     loop-again
     returns)

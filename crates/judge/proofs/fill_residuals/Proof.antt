@@ -35,28 +35,10 @@ mul-row-residual : tie.Need-mul-row-residual Inv-loop μ-loop
 mul-row-residual c =
     omega (arith, row-inside mostTanks (c .before .before .args .n) (c .before .loop .i) (c .before .before .pre .0) (omega arith))
 
-mul-row-residual-2 : tie.Need-mul-row-residual-2 Inv-loop μ-loop
-mul-row-residual-2 c = search needs
-
-element-copy-out-row-residual : tie.Need-element-copy-out-row-residual Inv-loop μ-loop
-element-copy-out-row-residual c = search needs
-
 row-residual-requires : tie.Need-row-residual-requires Inv-loop μ-loop
 row-residual-requires c κs =
     let g = c .before .before .before in
     (g .pre .0, omega (arith, row-inside mostTanks (g .args .n) (c .before .before .loop .i) (g .pre .0) (omega arith)))
-
-mul-t15 : tie.Need-mul-t15 Inv-loop μ-loop
-mul-t15 c = search needs
-
-element-set-from-residuals : tie.Need-element-set-from-residuals Inv-loop μ-loop
-element-set-from-residuals c = search needs
-
-add-i : tie.Need-add-i Inv-loop μ-loop
-add-i c = search needs
-
-loop-less : tie.Need-loop-less Inv-loop μ-loop
-loop-less c = search needs
 
 loop-again : tie.Need-loop-again Inv-loop μ-loop
 unfolding residual
@@ -81,12 +63,12 @@ fill-residuals-spec =
     μ-loop
     loop-holds
     mul-row-residual
-    mul-row-residual-2
-    element-copy-out-row-residual
+    (λ c. search needs)
+    (λ c. search needs)
     row-residual-requires
-    mul-t15
-    element-set-from-residuals
-    add-i
-    loop-less
+    (λ c. search needs)
+    (λ c. search needs)
+    (λ c. search needs)
+    (λ c. search needs)
     loop-again
     returns)

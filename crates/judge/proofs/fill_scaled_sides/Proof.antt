@@ -27,27 +27,6 @@ abbrev μ-loop : tie.MeasureT-loop
 loop-holds : tie.Need-loop-holds Inv-loop μ-loop
 loop-holds c = rewriting-begun
 
-mul-scaled-side : tie.Need-mul-scaled-side Inv-loop μ-loop
-mul-scaled-side c = search needs
-
-element-copy-out-scaled-side : tie.Need-element-copy-out-scaled-side Inv-loop μ-loop
-element-copy-out-scaled-side c = search needs
-
-scaled-side-requires : tie.Need-scaled-side-requires Inv-loop μ-loop
-scaled-side-requires c κs = search needs
-
-mul-t12 : tie.Need-mul-t12 Inv-loop μ-loop
-mul-t12 c = search needs
-
-element-set-from-residuals : tie.Need-element-set-from-residuals Inv-loop μ-loop
-element-set-from-residuals c = search needs
-
-add-i : tie.Need-add-i Inv-loop μ-loop
-add-i c = search needs
-
-loop-less : tie.Need-loop-less Inv-loop μ-loop
-loop-less c = search needs
-
 loop-again : tie.Need-loop-again Inv-loop μ-loop
 loop-again c =
     let l = c .before .before .before in
@@ -68,12 +47,12 @@ fill-scaled-sides-spec =
     Inv-loop
     μ-loop
     loop-holds
-    mul-scaled-side
-    element-copy-out-scaled-side
-    scaled-side-requires
-    mul-t12
-    element-set-from-residuals
-    add-i
-    loop-less
+    (λ c. search needs)
+    (λ c. search needs)
+    (λ c κs. search needs)
+    (λ c. search needs)
+    (λ c. search needs)
+    (λ c. search needs)
+    (λ c. search needs)
     loop-again
     returns)

@@ -22,27 +22,6 @@ abbrev μ-loop : tie.MeasureT-loop
 loop-holds : tie.Need-loop-holds Inv-loop μ-loop
 loop-holds c = rewriting-begun
 
-mul-scaled-tolerance : tie.Need-mul-scaled-tolerance Inv-loop μ-loop
-mul-scaled-tolerance c = search needs
-
-element-copy-out-scaled-tolerance : tie.Need-element-copy-out-scaled-tolerance Inv-loop μ-loop
-element-copy-out-scaled-tolerance c = search needs
-
-scaled-tolerance-requires : tie.Need-scaled-tolerance-requires Inv-loop μ-loop
-scaled-tolerance-requires c κs = search needs
-
-mul-reaches : tie.Need-mul-reaches Inv-loop μ-loop
-mul-reaches c = search needs
-
-element-write-reaches : tie.Need-element-write-reaches Inv-loop μ-loop
-element-write-reaches c = search needs
-
-add-i : tie.Need-add-i Inv-loop μ-loop
-add-i c = search needs
-
-loop-less : tie.Need-loop-less Inv-loop μ-loop
-loop-less c = search needs
-
 loop-again : tie.Need-loop-again Inv-loop μ-loop
 loop-again c =
     rewriting-turn (c .before .before .before .loop .inv) (c .before .before .loop-test .taken) (c .scaled-tolerance .ensures .0)
@@ -57,12 +36,12 @@ fill-scaled-tolerances-spec =
     Inv-loop
     μ-loop
     loop-holds
-    mul-scaled-tolerance
-    element-copy-out-scaled-tolerance
-    scaled-tolerance-requires
-    mul-reaches
-    element-write-reaches
-    add-i
-    loop-less
+    (λ c. search needs)
+    (λ c. search needs)
+    (λ c κs. search needs)
+    (λ c. search needs)
+    (λ c. search needs)
+    (λ c. search needs)
+    (λ c. search needs)
     loop-again
     returns)

@@ -46,36 +46,12 @@ loop-holds : tie.Need-loop-holds Inv-loop μ-loop
 unfolding first-not
 loop-holds c = search needs
 
-mul-if1 : tie.Need-mul-if1 Inv-loop μ-loop
-mul-if1 c = search needs
-
-element-copy-out-if1 : tie.Need-element-copy-out-if1 Inv-loop μ-loop
-element-copy-out-if1 c = search needs
-
-mul-magnitude : tie.Need-mul-magnitude Inv-loop μ-loop
-mul-magnitude c = search needs
-
-element-copy-out-magnitude : tie.Need-element-copy-out-magnitude Inv-loop μ-loop
-element-copy-out-magnitude c = search needs
-
-magnitude-requires : tie.Need-magnitude-requires Inv-loop μ-loop
-magnitude-requires c κs = search needs
-
-add-result : tie.Need-add-result Inv-loop μ-loop
-add-result c = search needs
-
 returns : tie.Need-returns Inv-loop μ-loop
 returns c =
     let d = c .before in
     let t : test′ d (i′ d) ≡ false = lt-leb _ _ (rw (size d) at (c .if1 .taken)) in
     let h = first-not-here (test′ d) (i′ d) (d .before .before .before .before .loop .inv .1) t in
     sym (first-not-stays (test′ d) (i′ d + 1) (start d .args .n) (i′ d) (omega arith) (h ∙ add-one (i′ d)) ∙ sym (add-one (i′ d)))
-
-add-i : tie.Need-add-i Inv-loop μ-loop
-add-i c = search needs
-
-loop-less : tie.Need-loop-less Inv-loop μ-loop
-loop-less c = search needs
 
 loop-again : tie.Need-loop-again Inv-loop μ-loop
 loop-again c =
@@ -96,14 +72,14 @@ first-beyond-spec =
     Inv-loop
     μ-loop
     loop-holds
-    mul-if1
-    element-copy-out-if1
-    mul-magnitude
-    element-copy-out-magnitude
-    magnitude-requires
-    add-result
+    (λ c. search needs)
+    (λ c. search needs)
+    (λ c. search needs)
+    (λ c. search needs)
+    (λ c κs. search needs)
+    (λ c. search needs)
     returns
-    add-i
-    loop-less
+    (λ c. search needs)
+    (λ c. search needs)
     loop-again
     returns-2)

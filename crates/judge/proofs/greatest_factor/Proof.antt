@@ -31,30 +31,6 @@ abbrev μ-loop : tie.MeasureT-loop
 loop-holds : tie.Need-loop-holds Inv-loop μ-loop
 loop-holds c = (omega arith, omega arith, omega arith, sym (first-greatest-one (factors (c .args .residuals .now) (c .args .reaches .now))))
 
-mul-exceeds : tie.Need-mul-exceeds Inv-loop μ-loop
-mul-exceeds c = search needs
-
-element-copy-out-exceeds : tie.Need-element-copy-out-exceeds Inv-loop μ-loop
-element-copy-out-exceeds c = search needs
-
-mul-exceeds-2 : tie.Need-mul-exceeds-2 Inv-loop μ-loop
-mul-exceeds-2 c = search needs
-
-element-copy-out-exceeds-2 : tie.Need-element-copy-out-exceeds-2 Inv-loop μ-loop
-element-copy-out-exceeds-2 c = search needs
-
-mul-exceeds-3 : tie.Need-mul-exceeds-3 Inv-loop μ-loop
-mul-exceeds-3 c = search needs
-
-element-copy-out-exceeds-3 : tie.Need-element-copy-out-exceeds-3 Inv-loop μ-loop
-element-copy-out-exceeds-3 c = search needs
-
-mul-exceeds-4 : tie.Need-mul-exceeds-4 Inv-loop μ-loop
-mul-exceeds-4 c = search needs
-
-element-copy-out-exceeds-4 : tie.Need-element-copy-out-exceeds-4 Inv-loop μ-loop
-element-copy-out-exceeds-4 c = search needs
-
 -- one factor more
 next : (g : ℕ → Fraction) (i best : ℕ) (b : Bool) → best ≡ first-greatest g i → b ≡ is-greater (order (g i) (g best))
     → cond b i best ≡ first-greatest g (i + 1)
@@ -81,15 +57,6 @@ module _ (c : tie.After-exceeds Inv-loop μ-loop) where
       let f = fits-at in
       let h = fits-best in
       next g′ (at-loop .loop .i) (at-loop .loop .best) (c .exceeds .result) (at-loop .loop .inv .3) (simp toZ-ofZ at (c .exceeds .ensures))
-
-exceeds-requires : tie.Need-exceeds-requires Inv-loop μ-loop
-exceeds-requires c κs = search needs
-
-add-i : tie.Need-add-i Inv-loop μ-loop
-add-i c = search needs
-
-loop-less : tie.Need-loop-less Inv-loop μ-loop
-loop-less c = search needs
 
 loop-again : tie.Need-loop-again Inv-loop μ-loop
 loop-again c =
@@ -118,16 +85,16 @@ greatest-factor-spec =
     Inv-loop
     μ-loop
     loop-holds
-    mul-exceeds
-    element-copy-out-exceeds
-    mul-exceeds-2
-    element-copy-out-exceeds-2
-    mul-exceeds-3
-    element-copy-out-exceeds-3
-    mul-exceeds-4
-    element-copy-out-exceeds-4
-    exceeds-requires
-    add-i
-    loop-less
+    (λ c. search needs)
+    (λ c. search needs)
+    (λ c. search needs)
+    (λ c. search needs)
+    (λ c. search needs)
+    (λ c. search needs)
+    (λ c. search needs)
+    (λ c. search needs)
+    (λ c κs. search needs)
+    (λ c. search needs)
+    (λ c. search needs)
     loop-again
     returns)

@@ -8,9 +8,6 @@ use borrow.Author.Tests.{eq-eqb, ne-eqb}
 use Rattle.judge.proofs.lacks_factor.Statement.{statement}
 use Rattle.judge.proofs.lacks_factor.Tie as tie
 
-magnitude-requires : tie.Need-magnitude-requires
-magnitude-requires c κs = search needs
-
 returns : tie.Need-returns
 returns c =
     let f = c .before .before .fits .residual in
@@ -21,4 +18,4 @@ returns-2 : tie.Need-returns-2
 returns-2 c = let z : eqb (c .before .args .reach) 0 ≡ false = ne-eqb _ _ (c .if1 .left) in rw z
 
 pub lacks-factor-spec : {M : Type 1} → statement M
-lacks-factor-spec = tie.close (tie.spec magnitude-requires returns returns-2)
+lacks-factor-spec = tie.close (tie.spec (λ c κs. search needs) returns returns-2)

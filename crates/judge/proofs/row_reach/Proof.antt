@@ -35,35 +35,8 @@ module _ (c : tie.After-weight Inv-loop μ-loop) where
   term : c .weight .result ≡ getD (start .args .tolerances .now) (start .args .from + j′) 0 * natAbs y′
   term = let f : SFits w32 y′ = record { sfits = c .before .weight-arg2 .given } in simp toZ-ofZ at (c .weight .ensures .0)
 
-loop-holds : tie.Need-loop-holds Inv-loop μ-loop
-loop-holds c = search needs
-
-add-weight : tie.Need-add-weight Inv-loop μ-loop
-add-weight c = search needs
-
-mul-weight : tie.Need-mul-weight Inv-loop μ-loop
-mul-weight c = search needs
-
-element-copy-out-weight : tie.Need-element-copy-out-weight Inv-loop μ-loop
-element-copy-out-weight c = search needs
-
-mul-weight-2 : tie.Need-mul-weight-2 Inv-loop μ-loop
-mul-weight-2 c = search needs
-
-element-copy-out-weight-2 : tie.Need-element-copy-out-weight-2 Inv-loop μ-loop
-element-copy-out-weight-2 c = search needs
-
-weight-requires : tie.Need-weight-requires Inv-loop μ-loop
-weight-requires c κs = search needs
-
 add-t : tie.Need-add-t Inv-loop μ-loop
 add-t c = omega (arith, c .weight .ensures .1)
-
-add-j : tie.Need-add-j Inv-loop μ-loop
-add-j c = search needs
-
-loop-less : tie.Need-loop-less Inv-loop μ-loop
-loop-less c = search needs
 
 loop-again : tie.Need-loop-again Inv-loop μ-loop
 loop-again c = (
@@ -71,9 +44,6 @@ loop-again c = (
   rw total-more (ap₂ (λ a b. a + b) (c .before .before .before .before .loop .inv .1) (term c)),
   omega (arith, c .weight .ensures .1),
 )
-
-scaled-tolerance-requires : tie.Need-scaled-tolerance-requires Inv-loop μ-loop
-scaled-tolerance-requires c κs = search needs
 
 add-result : tie.Need-add-result Inv-loop μ-loop
 add-result c = omega (arith, c .scaled-tolerance .ensures .1)
@@ -92,17 +62,17 @@ row-reach-spec =
     (tie.spec
     Inv-loop
     μ-loop
-    loop-holds
-    add-weight
-    mul-weight
-    element-copy-out-weight
-    mul-weight-2
-    element-copy-out-weight-2
-    weight-requires
+    (λ c. search needs)
+    (λ c. search needs)
+    (λ c. search needs)
+    (λ c. search needs)
+    (λ c. search needs)
+    (λ c. search needs)
+    (λ c κs. search needs)
     add-t
-    add-j
-    loop-less
+    (λ c. search needs)
+    (λ c. search needs)
     loop-again
-    scaled-tolerance-requires
+    (λ c κs. search needs)
     add-result
     returns)

@@ -62,27 +62,9 @@ module _ (c : tie.After-y Inv-loop μ-loop) where
   sum-fits : SFits w64 (s′ +ℤ a′ *ℤ y′)
   sum-fits = sfits-size (omega (arith, grown))
 
-loop-holds : tie.Need-loop-holds Inv-loop μ-loop
-loop-holds c = search needs
-
-add-a : tie.Need-add-a Inv-loop μ-loop
-add-a c = search needs
-
-mul-a : tie.Need-mul-a Inv-loop μ-loop
-mul-a c = search needs
-
-element-copy-out-a : tie.Need-element-copy-out-a Inv-loop μ-loop
-element-copy-out-a c = search needs
-
 cast-a : tie.Need-cast-a Inv-loop μ-loop
 cast-a c =
     wide-fits w16 tt (getD (c .before .before .before .args .coefficients .now) (c .before .before .before .args .from + c .before .before .loop .j) (pos 0)) (record { sfits = c .a .given })
-
-mul-y : tie.Need-mul-y Inv-loop μ-loop
-mul-y c = search needs
-
-element-copy-out-y : tie.Need-element-copy-out-y Inv-loop μ-loop
-element-copy-out-y c = search needs
 
 cast-y : tie.Need-cast-y Inv-loop μ-loop
 cast-y c = wide-fits w32 tt (y′ c) (fy′ c)
@@ -94,12 +76,6 @@ add-s : tie.Need-add-s Inv-loop μ-loop
 add-s c =
     rw (wide-is w16 tt (a′ c) (fa′ c), wide-is w32 tt (y′ c) (fy′ c), toZ-ofZ (product-fits c)) (sum-fits c)
 
-add-j : tie.Need-add-j Inv-loop μ-loop
-add-j c = search needs
-
-loop-less : tie.Need-loop-less Inv-loop μ-loop
-loop-less c = search needs
-
 loop-again : tie.Need-loop-again Inv-loop μ-loop
 loop-again c =
     rw (wide-is w16 tt (a′ c) (fa′ c), wide-is w32 tt (y′ c) (fy′ c), toZ-ofZ (product-fits c), toZ-ofZ (sum-fits c)) (
@@ -107,9 +83,6 @@ loop-again c =
       rw sum-more (ap (λ t. t +ℤ a′ c *ℤ y′ c) (c .before .before .before .loop .inv .1)),
       grown c,
     )
-
-scaled-side-requires : tie.Need-scaled-side-requires Inv-loop μ-loop
-scaled-side-requires c κs = search needs
 
 module _ (c : tie.After-scaled-side Inv-loop μ-loop) where
   abbrev b′ : ℤ
@@ -145,19 +118,19 @@ row-residual-spec =
     (tie.spec
     Inv-loop
     μ-loop
-    loop-holds
-    add-a
-    mul-a
-    element-copy-out-a
+    (λ c. search needs)
+    (λ c. search needs)
+    (λ c. search needs)
+    (λ c. search needs)
     cast-a
-    mul-y
-    element-copy-out-y
+    (λ c. search needs)
+    (λ c. search needs)
     cast-y
     mul-s
     add-s
-    add-j
-    loop-less
+    (λ c. search needs)
+    (λ c. search needs)
     loop-again
-    scaled-side-requires
+    (λ c κs. search needs)
     sub-result
     returns)

@@ -33,9 +33,6 @@ module _ (c : tie.Start) where
   product : SFits w64 (pos D′ *ℤ b′)
   product = sfits-size (omega (arith, small))
 
-cast-result : tie.Need-cast-result
-cast-result c = search needs
-
 cast-result-2 : tie.Need-cast-result-2
 cast-result-2 c = let f = c .fits .right-side in simp toZ-ofZ (wide c)
 
@@ -55,4 +52,4 @@ returns c =
     simp (toZ-ofZ, e) (refl, small c)
 
 pub scaled-side-spec : {M : Type 1} → statement M
-scaled-side-spec = tie.close (tie.spec cast-result cast-result-2 mul-result returns)
+scaled-side-spec = tie.close (tie.spec (λ c. search needs) cast-result-2 mul-result returns)

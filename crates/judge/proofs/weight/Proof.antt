@@ -28,9 +28,6 @@ module _ (c : tie.After-magnitude) where
 cast-magnitude : tie.Need-cast-magnitude
 cast-magnitude c = let f = c .fits .figure in simp toZ-ofZ (sfits-widen tt f)
 
-magnitude-requires : tie.Need-magnitude-requires
-magnitude-requires c κs = search needs
-
 mul-result : tie.Need-mul-result
 mul-result c = let s = small c in omega arith
 
@@ -38,4 +35,4 @@ returns : tie.Need-returns
 returns c = (ap (λ y. c .before .args .tolerance * y) (y-is c), small c)
 
 pub weight-spec : {M : Type 1} → statement M
-weight-spec = tie.close (tie.spec cast-magnitude magnitude-requires mul-result returns)
+weight-spec = tie.close (tie.spec cast-magnitude (λ c κs. search needs) mul-result returns)

@@ -5,13 +5,13 @@ use native.Mathlib.Nat.{lt-of-lt-of-le}
 use native.Mathlib.Omega.{arith}
 use denote.Ref.{now}
 use lib.Dec.{lit≤}
-use lib.ListN.{length}
 use borrow.Author.Needs.{needs}
+use borrow.Author.Tests.{le-leb, lt-leb}
 use Rattle.decimal.specs.Buffer.{ascii, Room}
 use Rattle.decimal.specs.BufferLaws.{Rooms, room-here, room-after, wrote-first, wrote-last}
-use Rattle.report.specs.Text.{labelled, line-feed, refusal-text}
+use Rattle.report.specs.Text.{labelled, line-feed, refusal-text, printed-refusal}
 use Rattle.report.specs.Lines.{from-front, nothing}
-use Rattle.report.specs.TextLaws.{length-refusal, printed-refusal-whole, printed-refusal-short-buffer}
+use Rattle.report.specs.TextLaws.{length-refusal}
 use Rattle.report.proofs.render_refusal.Statement.{statement}
 use Rattle.report.proofs.render_refusal.Tie as tie
 
@@ -36,43 +36,33 @@ module _ (c : tie.Else1) where
   room = record { whole = whole-room }
 
 returns : tie.Need-returns
-returns c =
-    let s = c .before .before in
-    rw (printed-refusal-short-buffer (length (now (s .args .out))) (s .args .number) (c .if1 .taken)) (nothing (now (s .args .out)))
-
-slice-aggregate-write-labelled : tie.Need-slice-aggregate-write-labelled
-slice-aggregate-write-labelled c = search needs
+unfolding printed-refusal
+returns c = rw (lt-leb _ _ (c .if1 .taken)) (nothing (now (c .before .before .args .out)))
 
 write-labelled-requires : tie.Need-write-labelled-requires
 write-labelled-requires c κs = room-here (room (c .before .before))
-
-slice-aggregate-write-bytes : tie.Need-slice-aggregate-write-bytes
-slice-aggregate-write-bytes c = search needs
 
 write-bytes-requires : tie.Need-write-bytes-requires
 write-bytes-requires c κs =
     let l = c .before .before .before .before in
     room-here (room-after (room (l .before .before .before)) (l .write-labelled .ensures))
 
-same-length : tie.Need-same-length
-same-length c = search needs
-
 returns-2 : tie.Need-returns-2
-unfolding refusal-text
+unfolding printed-refusal refusal-text
 returns-2 c =
     let l = c .before .before .before .before .before .before .before in
     let i = l .before .before .before in
     let w = wrote-first (room i) (l .write-labelled .ensures) (wrote-last (c .before .before .write-bytes .ensures)) in
-    rw (printed-refusal-whole (length (now (start i .args .out))) (start i .args .number) (i .if1 .left)) (from-front (w .whole))
+    rw (le-leb _ _ (i .if1 .left)) (from-front (w .whole))
 
 pub render-refusal-spec : {M : Type 1} → statement M
 render-refusal-spec =
     tie.close
     (tie.spec
     returns
-    slice-aggregate-write-labelled
+    (λ c. search needs)
     write-labelled-requires
-    slice-aggregate-write-bytes
+    (λ c. search needs)
     write-bytes-requires
-    same-length
+    (λ c. search needs)
     returns-2)

@@ -52,14 +52,8 @@ figure f =
     let s = start (f .before .before .before .before) in
     rw (toZ-ofZ {w = w32} (s .fits .figure), toZ-ofZ {w = w64} (wide s)) at (f .write-fixed-point .ensures)
 
-slice-aggregate-write-labelled : tie.Need-slice-aggregate-write-labelled
-slice-aggregate-write-labelled c = search needs
-
 write-labelled-requires : tie.Need-write-labelled-requires
 write-labelled-requires c κs = room-here (room (c .before .before .before))
-
-slice-aggregate-write-bytes : tie.Need-slice-aggregate-write-bytes
-slice-aggregate-write-bytes c = search needs
 
 write-bytes-requires : tie.Need-write-bytes-requires
 write-bytes-requires c κs =
@@ -76,16 +70,10 @@ write-fixed-point-requires c κs =
     let b = c .before .before .before in
     rw (toZ-ofZ {w = w32} (start b .fits .figure), toZ-ofZ {w = w64} (wide (start b))) (start b .pre .0, room-here (left b))
 
-slice-aggregate-write-bytes-2 : tie.Need-slice-aggregate-write-bytes-2
-slice-aggregate-write-bytes-2 c = search needs
-
 write-bytes-requires-2 : tie.Need-write-bytes-requires-2
 write-bytes-requires-2 c κs =
     let f = c .before .before .before .before in
     room-here (room-after (left (f .before .before .before .before)) (figure f))
-
-same-length : tie.Need-same-length
-same-length c = search needs
 
 returns : tie.Need-returns
 unfolding answer-line
@@ -104,13 +92,13 @@ pub write-answer-line-spec : {M : Type 1} → statement M
 write-answer-line-spec =
     tie.close
     (tie.spec
-    slice-aggregate-write-labelled
+    (λ c. search needs)
     write-labelled-requires
-    slice-aggregate-write-bytes
+    (λ c. search needs)
     write-bytes-requires
     cast-write-fixed-point
     write-fixed-point-requires
-    slice-aggregate-write-bytes-2
+    (λ c. search needs)
     write-bytes-requires-2
-    same-length
+    (λ c. search needs)
     returns)

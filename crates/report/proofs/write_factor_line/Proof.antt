@@ -25,34 +25,30 @@ room : (s : tie.Start) → Rooms (labelled (factor-word (s .args .none)) (s .arg
 unfolding factor-line
 room s = record { whole = whole-room s }
 
-write-factor-requires : tie.Need-write-factor-requires
-write-factor-requires c κs = room-here (room (c .before .before))
-
-slice-aggregate-write-bytes : tie.Need-slice-aggregate-write-bytes
-slice-aggregate-write-bytes c = search needs
+write-either-requires : tie.Need-write-either-requires
+write-either-requires c κs = room-here (room (c .before .before .before .before))
 
 write-bytes-requires : tie.Need-write-bytes-requires
 write-bytes-requires c κs =
     let f = c .before .before .before .before in
-    room-here (room-after (room (f .before .before .before)) (f .write-factor .ensures))
-
-same-length : tie.Need-same-length
-same-length c = search needs
+    room-here (room-after (room (f .before .before .before .before .before)) (f .write-either .ensures))
 
 returns : tie.Need-returns
 unfolding factor-line
 returns c =
     let f = c .before .before .before .before .before .before .before in
-    let s = f .before .before .before in
-    let w = wrote-first (room s) (f .write-factor .ensures) (wrote-last (c .before .before .write-bytes .ensures)) in
+    let s = f .before .before .before .before .before in
+    let w = wrote-first (room s) (f .write-either .ensures) (wrote-last (c .before .before .write-bytes .ensures)) in
     record { short = short s; wrote = w .whole }
 
 pub write-factor-line-spec : {M : Type 1} → statement M
 write-factor-line-spec =
     tie.close
     (tie.spec
-    write-factor-requires
-    slice-aggregate-write-bytes
+    (λ c. search needs)
+    (λ c. search needs)
+    write-either-requires
+    (λ c. search needs)
     write-bytes-requires
-    same-length
+    (λ c. search needs)
     returns)

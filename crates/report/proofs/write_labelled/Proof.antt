@@ -15,9 +15,6 @@ write-unsigned-requires c κs =
     let b = c .before .before .before in
     room-next (b .before .before .before .before .pre) (b .write-bytes .ensures)
 
-same-length : tie.Need-same-length
-same-length c = search needs
-
 returns : tie.Need-returns
 returns c =
     let b = c .before .before .before .before .before .before in
@@ -26,4 +23,4 @@ returns c =
 
 pub write-labelled-spec : {M : Type 1} → statement M
 write-labelled-spec =
-    tie.close (tie.spec write-bytes-requires write-unsigned-requires same-length returns)
+    tie.close (tie.spec write-bytes-requires write-unsigned-requires (λ c. search needs) returns)

@@ -54,14 +54,8 @@ module _ (f : tie.After-write-signed) where
   rest : Rooms (labelled (ascii " reach ") (start second .args .reach) ∷ line-feed ∷ []) (f .write-signed .result) (f .write-signed .last .1 .1 .0)
   rest = room-after (left second) residual
 
-slice-aggregate-write-labelled : tie.Need-slice-aggregate-write-labelled
-slice-aggregate-write-labelled c = search needs
-
 write-labelled-requires : tie.Need-write-labelled-requires
 write-labelled-requires c κs = room-here (room (c .before .before .before))
-
-slice-aggregate-write-bytes : tie.Need-slice-aggregate-write-bytes
-slice-aggregate-write-bytes c = search needs
 
 write-bytes-requires : tie.Need-write-bytes-requires
 write-bytes-requires c κs =
@@ -73,22 +67,13 @@ write-signed-requires c κs =
     let b = c .before .before .before in
     rw (toZ-ofZ {w = w64} (start b .fits .residual)) (room-here (left b))
 
-slice-aggregate-write-labelled-2 : tie.Need-slice-aggregate-write-labelled-2
-slice-aggregate-write-labelled-2 c = search needs
-
 write-labelled-requires-2 : tie.Need-write-labelled-requires-2
 write-labelled-requires-2 c κs = room-here (rest (c .before .before .before .before))
-
-slice-aggregate-write-bytes-2 : tie.Need-slice-aggregate-write-bytes-2
-slice-aggregate-write-bytes-2 c = search needs
 
 write-bytes-requires-2 : tie.Need-write-bytes-requires-2
 write-bytes-requires-2 c κs =
     let l = c .before .before .before .before in
     room-here (room-after (rest (l .before .before .before .before .before)) (l .write-labelled2 .ensures))
-
-same-length : tie.Need-same-length
-same-length c = search needs
 
 returns : tie.Need-returns
 unfolding row-line
@@ -109,14 +94,14 @@ pub write-row-line-spec : {M : Type 1} → statement M
 write-row-line-spec =
     tie.close
     (tie.spec
-    slice-aggregate-write-labelled
+    (λ c. search needs)
     write-labelled-requires
-    slice-aggregate-write-bytes
+    (λ c. search needs)
     write-bytes-requires
     write-signed-requires
-    slice-aggregate-write-labelled-2
+    (λ c. search needs)
     write-labelled-requires-2
-    slice-aggregate-write-bytes-2
+    (λ c. search needs)
     write-bytes-requires-2
-    same-length
+    (λ c. search needs)
     returns)

@@ -50,9 +50,6 @@ write-rows-requires c κs =
 write-factor-line-requires : tie.Need-write-factor-line-requires
 write-factor-line-requires c κs = after-rows (c .before .before .before)
 
-same-length : tie.Need-same-length
-same-length c = search needs
-
 returns : tie.Need-returns
 unfolding text
 returns c =
@@ -72,5 +69,5 @@ write-text-spec =
     write-answers-requires
     write-rows-requires
     write-factor-line-requires
-    same-length
+    (λ c. search needs)
     returns)

@@ -28,28 +28,19 @@ room : (s : tie.Start) → Rooms (labelled (verdict-word (s .args .met)) (s .arg
 unfolding verdict-line
 room s = record { whole = whole-room s }
 
-write-verdict-requires : tie.Need-write-verdict-requires
-write-verdict-requires c κs = room-here (room (c .before .before))
-
-slice-aggregate-write-labelled : tie.Need-slice-aggregate-write-labelled
-slice-aggregate-write-labelled c = search needs
+write-either-requires : tie.Need-write-either-requires
+write-either-requires c κs = room-here (room (c .before .before .before .before))
 
 write-labelled-requires : tie.Need-write-labelled-requires
 write-labelled-requires c κs =
     let v = c .before .before .before .before in
-    room-here (room-after (room (v .before .before .before)) (v .write-verdict .ensures))
-
-slice-aggregate-write-bytes : tie.Need-slice-aggregate-write-bytes
-slice-aggregate-write-bytes c = search needs
+    room-here (room-after (room (v .before .before .before .before .before)) (v .write-either .ensures))
 
 write-bytes-requires : tie.Need-write-bytes-requires
 write-bytes-requires c κs =
     let l = c .before .before .before .before in
     let v = l .before .before .before .before .before in
-    room-here (room-after (room-after (room (v .before .before .before)) (v .write-verdict .ensures)) (l .write-labelled .ensures))
-
-same-length : tie.Need-same-length
-same-length c = search needs
+    room-here (room-after (room-after (room (v .before .before .before .before .before)) (v .write-either .ensures)) (l .write-labelled .ensures))
 
 returns : tie.Need-returns
 unfolding verdict-line
@@ -57,21 +48,23 @@ returns c =
     let b = c .before .before in
     let l = b .before .before .before .before .before in
     let v = l .before .before .before .before .before in
-    let s = v .before .before .before in
+    let s = v .before .before .before .before .before in
     let r = room s in
     let w =
-    wrote-first r (v .write-verdict .ensures)
-    (wrote-first (room-after r (v .write-verdict .ensures)) (l .write-labelled .ensures) (wrote-last (b .write-bytes .ensures))) in
+    wrote-first r (v .write-either .ensures)
+    (wrote-first (room-after r (v .write-either .ensures)) (l .write-labelled .ensures) (wrote-last (b .write-bytes .ensures))) in
     record { short = short s; wrote = w .whole }
 
 pub write-verdict-line-spec : {M : Type 1} → statement M
 write-verdict-line-spec =
     tie.close
     (tie.spec
-    write-verdict-requires
-    slice-aggregate-write-labelled
+    (λ c. search needs)
+    (λ c. search needs)
+    write-either-requires
+    (λ c. search needs)
     write-labelled-requires
-    slice-aggregate-write-bytes
+    (λ c. search needs)
     write-bytes-requires
-    same-length
+    (λ c. search needs)
     returns)
