@@ -1,4 +1,4 @@
--- Big-endian numbers of a stated count of bytes.
+-- Big-endian numbers of a stated count of bytes; the highest number and the bytes of a width.
 use Prim.Native.Nat.{ℕ, zero, suc, _+_, _*_, _-_, _/_, _%_, _^_}
 use mathlib.Core.List.{List, [], _∷_}
 use lib.ListN.{length}

@@ -25,12 +25,12 @@ use Rattle.casefile.specs.Decode.{trialAt, trialStatus, trialOf, endStat
 use Rattle.casefile.specs.KindLaws.{trial-lawful}
 use Rattle.casefile.specs.BlockLaws.{Sound}
 
--- K above 0
+-- what is due where K is above 0
 pub not-brought : {X : Type 0} (k : ℕ) (x y : X) → (k ≡ 0 → ⊥) → whereBrought k x y ≡ y
 not-brought zero x y h = absurd (h refl)
 not-brought (suc k) x y h = refl
 
--- what a trial brings is at most that
+-- what is due only where the case brings its trial is at most m
 pub brought-most : (k m : ℕ) → whereBrought k m 0 ≤ m
 brought-most zero m = omega arith
 brought-most (suc k) m = omega arith

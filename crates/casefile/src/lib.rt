@@ -1,4 +1,4 @@
-// A case as the program holds it, whether n, e and K are within their limits, and the tags, lengths and places of its fields in bytes.
+// A case as the program holds it, what reading gives, whether n, e and K are within their limits, how many figures the trial has, and the tags, lengths and places of its fields in bytes.
 ghost use mathlib.Core.Path.{_≡_};
 ghost use Prim.Native.Nat.{_≤_};
 ghost use Rattle.limits.specs.Limits.{mostTanks};

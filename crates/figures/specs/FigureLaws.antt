@@ -1,4 +1,4 @@
--- The laws of runs of figures, once for every kind: read back what was written, write back what was read; and of tests over lists.
+-- The laws of figures as bytes and of runs of them, once for every kind: read back what was written, write back what was read; and of tests over lists.
 -- Assumes nothing.
 use mathlib.Core.Path.{_≡_, refl, ap, _∙_}
 use mathlib.Core.List.{List, [], _∷_, _++_}

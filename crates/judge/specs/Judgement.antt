@@ -71,6 +71,6 @@ unfoldable pub judgement : System → Trial → Judgement
 unfolding concluded deciding-place
 judgement s t = concluded (s .n) (standing s t)
 
--- the row that decides, by the rows themselves: the same (`deciding-is` in Laws)
+-- the row that decides, by the rows themselves: the same for at most eight rows (`deciding-is` in Laws)
 unfoldable pub deciding : System → Trial → ℕ
 deciding s t = first-greatest (λ i. factor (residual (row s i) t) (reach (row s i) t)) (s .n)
