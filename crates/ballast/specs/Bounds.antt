@@ -12,7 +12,7 @@ use Rattle.casefile.specs.Case.{Case}
 use Rattle.casefile.specs.CaseLaws.{Good}
 use Rattle.casefile.specs.Decode.{stored}
 use Rattle.casefile.specs.StoredLaws.{getD-padded, padded-within}
-use Rattle.judge.specs.System.{system, row, trial, reach}
+use Rattle.judge.specs.System.{row, trial, reach}
 use Rattle.judge.specs.Sizes.{reach-size}
 use Rattle.solver.specs.Limits.{scale-limit, Limits}
 use Rattle.solver.specs.Sizes.{limits-enough}
@@ -50,6 +50,6 @@ module _ (c : Case) (g : Good c) where
 
 -- the zeros behind a stored case's figures change nothing: its rows are those of the case's own lists
 pub stored-row : (c : Case) (i : ℕ)
-    → row (systemOf (stored c)) i ≡ row (let r = c .rows in system (c .n) (r .coefficients) (r .tolerances) (r .right-sides) (r .right-tolerances)) i
+    → row (systemOf (stored c)) i ≡ row (record { n = c .n; rows = c .rows }) i
 unfolding stored
 stored-row c i = simp getD-padded

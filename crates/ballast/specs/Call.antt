@@ -12,10 +12,10 @@ use Rattle.outcome.specs.declared.Status.{Status as FileStatus}
 use Rattle.outcome.specs.declared.Status.the-variants.{Accepted, Refused as RefusedBy}
 use Rattle.integers.specs.Tables.{table}
 use Rattle.casefile.specs.declared.Case.{Case}
-use Rattle.casefile.specs.Decode.{Decoded, accepted, refused, decode, stored}
+use Rattle.casefile.specs.Decode.{Decoded, accepted, refused, decode, heldRows, stored}
 use Rattle.casefile.specs.Write.{Written, filed, inRoom}
 use Rattle.judge.specs.declared.Judgement.{Judgement}
-use Rattle.judge.specs.System.{System, system, trial}
+use Rattle.judge.specs.System.{System, trial}
 use Rattle.judge.specs.Judgement.{judgement}
 use Rattle.solver.specs.declared.Solution.{Solution}
 use Rattle.solver.specs.declared.Status.{Status}
@@ -31,7 +31,7 @@ scaleOf e = 10 ^ e
 
 -- the rows of a case, as it is held in memory: its figures with zeros behind them
 abbrev pub systemOf : Case → System
-systemOf c = system (c .n) (c .coefficients) (c .tolerances) (c .«right_sides») (c .«right_tolerances»)
+systemOf c = record { n = c .n; rows = heldRows c }
 
 -- "0 means that the case brings its trial", with no round used
 abbrev pub brought : Case → Solution

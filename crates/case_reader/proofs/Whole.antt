@@ -9,7 +9,7 @@ use Rattle.outcome.specs.declared.Refusal.{Refusal}
 use Rattle.outcome.specs.declared.Status.the-variants.{Accepted, Refused}
 use Rattle.outcome.specs.Outcome.{first}
 use Rattle.limits.specs.Limits.{mostTanks}
-use Rattle.casefile.specs.Block.{Block, over, together}
+use Rattle.rows.specs.Block.{Block, over, together}
 use Rattle.casefile.specs.Case.{caseWith}
 use Rattle.casefile.specs.Layout.{rowsEnd}
 use Rattle.casefile.specs.Decode.{afterHead, headStatus, rowsStatus, rowsOf, trialOf, tailStatus, inputStatus, caseOf, refused, decode, padded, places, held, stored, reading}

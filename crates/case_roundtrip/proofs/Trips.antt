@@ -12,12 +12,12 @@ use Rattle.outcome.specs.declared.Outcome.{Outcome}
 use Rattle.outcome.specs.declared.Outcome.the-variants.{Count, Refused as RefusedBy}
 use Rattle.buffer.specs.Laws.{take-onto, holds}
 use Rattle.bigendian.specs.NumberLaws.{Bytes}
-use Rattle.casefile.specs.Block.{Block, block, RowsRoom, front}
+use Rattle.rows.specs.Block.{RowsRoom, front}
 use Rattle.casefile.specs.declared.Case.{Case as Stored}
 use Rattle.casefile.specs.declared.Reading.{Reading}
 use Rattle.limits.specs.Limits.{mostTanks, mostCoefficients}
 use Rattle.casefile.specs.Case.{Case, caseWith, trialCount}
-use Rattle.casefile.specs.Decode.{accepted, refused, decoded, decode, places, stored, reading}
+use Rattle.casefile.specs.Decode.{accepted, refused, decoded, decode, places, heldRows, stored, reading}
 use Rattle.casefile.specs.StoredLaws.{Whole}
 use Rattle.casefile.specs.BlockLaws.{counts, front-over, room-over}
 use Rattle.casefile.specs.RowsLaws.{square-fits}
@@ -49,17 +49,13 @@ module _ (c : Case) (out : List ℕ) (o : Outcome) {exit : List ℕ} (e : leaves
 
 -- ---- read, then written
 
--- the rows that a case holds, with zeros behind them
-abbrev pub lists : Stored → Block
-lists p = block (p .coefficients) (p .tolerances) (p .«right_sides») (p .«right_tolerances»)
-
 -- the case of the lists that a caller hands on, k figures of its trial
 abbrev pub handed : Stored → ℕ → Case
 handed p k =
-    caseWith (p .n) (p .exponent) (p .rounds) (front (p .n * p .n) (p .n) (lists p)) (take k (p .trial))
+    caseWith (p .n) (p .exponent) (p .rounds) (front (p .n * p .n) (p .n) (heldRows p)) (take k (p .trial))
 
 pub record Small (p : Stored) : Type 0 where
-  pub rows : RowsRoom (p .n) (lists p)
+  pub rows : RowsRoom (p .n) (heldRows p)
   pub square : p .n * p .n ≤ mostCoefficients
   pub trial-count : trialCount (p .rounds) (p .n) ≤ mostTanks
   pub trial : trialCount (p .rounds) (p .n) ≤ length (p .trial)

@@ -14,7 +14,7 @@ use Rattle.buffer.specs.Laws.{take-onto, holds}
 use Rattle.figures.specs.Figures.{upTo, within, all}
 use Rattle.figures.specs.FigureLaws.{and-true, all-append, all-take, all-drop}
 use Rattle.limits.specs.Limits.{coefficientLimit, toleranceLimit, rightSideLimit, rightToleranceLimit}
-use Rattle.casefile.specs.Block.{Block, Counts, Room, RowsRoom, each, front, behind, paired, stacked, over, split, together}
+use Rattle.rows.specs.Block.{Block, Counts, Room, RowsRoom, each, front, behind, paired, stacked, over, split, together}
 use Rattle.casefile.specs.Case.{rowsFine}
 
 -- ---- a list of k figures that pass a test

@@ -10,7 +10,7 @@ use Rattle.outcome.specs.declared.Refusal.the-variants.{WrongLength, OutsideLim
 use Rattle.outcome.specs.declared.Status.{Status}
 use Rattle.outcome.specs.Outcome.{check, first}
 use Rattle.figures.specs.Figures.{upTo, within, all}
-use Rattle.casefile.specs.Block.{Block, block}
+use Rattle.rows.specs.Block.{Block, block}
 
 -- document 01's n, e and K (rounds, its own term), its rows, and its trial Y
 pub record Case : Type 0 where

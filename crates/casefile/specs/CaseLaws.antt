@@ -23,7 +23,7 @@ use Rattle.figures.specs.FigureLaws.{and-true}
 use Rattle.fields.specs.Field.{headerSize, field, endTag, endSize, endField, valueOf, fieldStatus}
 use Rattle.fields.specs.FieldLaws.{length-field, field-accepted, field-room, field-is}
 use Rattle.limits.specs.Limits.{mostTanks, mostExponent, mostRounds, trialLimit}
-use Rattle.casefile.specs.Block.{Counts}
+use Rattle.rows.specs.Block.{Counts}
 use Rattle.casefile.specs.Case.{Case, headFine, HeadSmall, trialCount, counted, rowsFine, figuresFine, caseStatus}
 use Rattle.casefile.specs.Layout.{headTag, headLength, headValue, headField, nAt, exponentAt, roundsAt, rowsAt, rowSize, rowsEnd, longestCase, rowField, rowsIn, trialLength, trialSize, trialFields, trialBytes, encode}
 use Rattle.casefile.specs.Decode.{headTanks, headExponent, headRounds, headStatus, rowsStatus, rowsOf, trialStatus, endStatus, tailStatus, afterHead, afterRows, inputStatus, caseOf, accepted, decoded, decode}

@@ -15,7 +15,7 @@ use Rattle.buffer.specs.Buffer.{onto}
 use Rattle.figures.specs.Figures.{i16, u16, i32, u32, within, items, figures, after, all}
 use Rattle.fields.specs.Field.{endTag, endLength, endSize, valueOf, afterField, fieldStatus}
 use Rattle.limits.specs.Limits.{mostTanks, mostCoefficients, trialLimit}
-use Rattle.casefile.specs.Block.{Block, block, over, together}
+use Rattle.rows.specs.Block.{Block, block, over, together}
 use Rattle.casefile.specs.Case.{Case, caseWith, given, headFine, whereBrought, rowsFine}
 use Rattle.casefile.specs.Layout.{headTag, headLength, nAt, exponentAt, roundsAt, rowsAt, rowTag, rowLength, rowSize, rowsEnd, trialTag, trialKind, trialLength, trialSize}
 use Rattle.casefile.specs.declared.Case.{Case as Stored}
@@ -126,6 +126,10 @@ padded k z l = onto l (replicate k z)
 -- places for the rows of any case
 abbrev pub places : Block
 places = block (replicate mostCoefficients (pos 0)) (replicate mostCoefficients 0) (replicate mostTanks (pos 0)) (replicate mostTanks 0)
+
+-- the rows that a case holds, with zeros behind them
+abbrev pub heldRows : Stored → Block
+heldRows c = block (c .coefficients) (c .tolerances) (c .«right_sides») (c .«right_tolerances»)
 
 abbrev pub held : ℕ → ℕ → ℕ → Block → List ℤ → Stored
 held n exponent rounds rows trial =

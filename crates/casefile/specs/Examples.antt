@@ -9,7 +9,7 @@ use Rattle.outcome.specs.declared.Refusal.the-variants.{FieldMissing, WrongTag,
 use Rattle.bigendian.specs.Number.{be, bytes}
 use Rattle.figures.specs.Figures.{i16, items, spread, all}
 use Rattle.fields.specs.Field.{headerSize, field, fieldStatus}
-use Rattle.casefile.specs.Block.{split}
+use Rattle.rows.specs.Block.{split}
 use Rattle.casefile.specs.Case.{Case, given, rowsFine}
 use Rattle.casefile.specs.Layout.{rowsAt, longestCase, rowBytes, encode}
 use Rattle.casefile.specs.Decode.{headStatus, rowOf, rowStatus, rowsStatus, trialStatus, trialOf, endStatus, tailStatus, inputStatus, caseOf, Decoded, accepted, refused, decode}

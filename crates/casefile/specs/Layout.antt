@@ -5,7 +5,7 @@ use lib.IntN.{ℤ}
 use Rattle.buffer.specs.Buffer.{joined}
 use Rattle.figures.specs.Figures.{Kind, i16, u16, i32, u32, spread}
 use Rattle.fields.specs.Field.{headerSize, field, endField}
-use Rattle.casefile.specs.Block.{Block, split}
+use Rattle.rows.specs.Block.{Block, split}
 use Rattle.casefile.specs.Case.{Case, whereBrought}
 
 -- ---- fields and their lengths

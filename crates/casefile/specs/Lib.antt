@@ -1,4 +1,3 @@
-pub mod Block
 pub mod Case
 pub mod Layout
 pub mod Decode

@@ -17,7 +17,7 @@ use Rattle.figures.specs.FigureLaws.{length-spread, after-spread, figures-sprea
 use Rattle.fields.specs.Field.{headerSize, valueOf, afterField, fieldStatus}
 use Rattle.fields.specs.FieldLaws.{length-field, field-value, field-after, field-accepted, value-room, field-same, field-room-at}
 use Rattle.limits.specs.Limits.{mostTanks}
-use Rattle.casefile.specs.Block.{Block, Counts}
+use Rattle.rows.specs.Block.{Block, Counts}
 use Rattle.casefile.specs.Case.{rowsFine}
 use Rattle.casefile.specs.Layout.{rowTag, rowLength, rowSize, rightSideAt, rightToleranceAt, rowBytes, rowField}
 use Rattle.casefile.specs.Decode.{rowOf, rowAt, rowStatus}

@@ -14,7 +14,7 @@ use Rattle.figures.specs.Figures.{items}
 use Rattle.figures.specs.ItemLaws.{length-joined, Back, items-back, items-same}
 use Rattle.fields.specs.Field.{afterField}
 use Rattle.limits.specs.Limits.{mostTanks, mostCoefficients}
-use Rattle.casefile.specs.Block.{Block}
+use Rattle.rows.specs.Block.{Block}
 use Rattle.casefile.specs.Layout.{rowLength, rowSize, rowField}
 use Rattle.casefile.specs.Decode.{rowAt, rowStatus, rowsStatus, rowsOf}
 use Rattle.casefile.specs.BlockLaws.{counts, Rows, none, one}

@@ -13,8 +13,8 @@ use Rattle.judge.specs.Judgement.{standing}
 
 -- coefficients of at most a, right-hand sides of at most b, figures of at most y
 module _ (s : System) (t : Trial) (a b y : ℕ)
-    (coefficients : (j : ℕ) → natAbs (getD (s .coefficients) j (pos 0)) ≤ a)
-    (right-sides : (j : ℕ) → natAbs (getD (s .right-sides) j (pos 0)) ≤ b)
+    (coefficients : (j : ℕ) → natAbs (getD (s .rows .coefficients) j (pos 0)) ≤ a)
+    (right-sides : (j : ℕ) → natAbs (getD (s .rows .right-sides) j (pos 0)) ≤ b)
     (figures : (j : ℕ) → natAbs (t .Y j) ≤ y) where
   pub residual-size : (i : ℕ) → natAbs (residual (row s i) t) ≤ t .D * b + t .n * (a * y)
   unfolding residual
@@ -34,8 +34,8 @@ module _ (s : System) (t : Trial) (a b y : ℕ)
 
 -- tolerances of at most e, of right-hand sides of at most f, figures of at most y
 pub reach-size : (s : System) (t : Trial) (e f y : ℕ)
-    → ((j : ℕ) → getD (s .tolerances) j 0 ≤ e)
-    → ((j : ℕ) → getD (s .right-tolerances) j 0 ≤ f)
+    → ((j : ℕ) → getD (s .rows .tolerances) j 0 ≤ e)
+    → ((j : ℕ) → getD (s .rows .right-tolerances) j 0 ≤ f)
     → ((j : ℕ) → natAbs (t .Y j) ≤ y)
     → (i : ℕ) → reach (row s i) t ≤ t .D * f + t .n * (e * y)
 unfolding reach

@@ -5,6 +5,7 @@ use Prim.Native.Nat.{ℕ, _+_, _*_}
 use lib.ListN.{getD}
 use lib.IntN.{ℤ, pos, natAbs, _-ℤ_, _*ℤ_}
 use Rattle.limits.specs.Limits.{mostTanks}
+use Rattle.rows.specs.Block.{Block, block}
 use Rattle.integers.specs.Sums.{sum, total}
 use Rattle.integers.specs.Tables.{table}
 
@@ -29,25 +30,22 @@ residual r t = pos (t .D) *ℤ r .b -ℤ sum (t .n) (λ j. r .A j *ℤ t .Y j)
 unfoldable pub reach : Row → Trial → ℕ
 reach r t = t .D * r .f + total (t .n) (λ j. r .E j * natAbs (t .Y j))
 
--- n rows over n tanks; the coefficients and their tolerances stand row after row in one list each. Past a list's end a figure reads as 0.
+-- n rows over n tanks. Past a list's end a figure reads as 0.
 pub record System : Type 0 where
   pub n : ℕ
-  pub coefficients : List ℤ
-  pub tolerances : List ℕ
-  pub right-sides : List ℤ
-  pub right-tolerances : List ℕ
+  pub rows : Block
 
 abbrev pub system : ℕ → List ℤ → List ℕ → List ℤ → List ℕ → System
-system n A E b f = record { n = n; coefficients = A; tolerances = E; right-sides = b; right-tolerances = f }
+system n A E b f = record { n = n; rows = block A E b f }
 
 -- row i, counted from 0
 abbrev pub row : System → ℕ → Row
 row s i =
     record {
-      A = λ j. getD (s .coefficients) (i * s .n + j) (pos 0);
-      E = λ j. getD (s .tolerances) (i * s .n + j) 0;
-      b = getD (s .right-sides) i (pos 0);
-      f = getD (s .right-tolerances) i 0;
+      A = λ j. getD (s .rows .coefficients) (i * s .n + j) (pos 0);
+      E = λ j. getD (s .rows .tolerances) (i * s .n + j) 0;
+      b = getD (s .rows .right-sides) i (pos 0);
+      f = getD (s .rows .right-tolerances) i 0;
     }
 
 -- the figures Y of a list, over n tanks and the scale D

@@ -33,14 +33,14 @@ scaled-sides n D b = filled mostTanks n (pos 0) (λ i. pos D *ℤ getD b i (pos 
 abbrev pub scaled-tolerances : ℕ → ℕ → List ℕ → List ℕ
 scaled-tolerances n D f = filled mostTanks n 0 (λ i. D * getD f i 0)
 
-pub zero-residuals : (s : System) (D : ℕ) → scaled-sides (s .n) D (s .right-sides) ≡ residuals s (zero-trial (s .n) D)
+pub zero-residuals : (s : System) (D : ℕ) → scaled-sides (s .n) D (s .rows .right-sides) ≡ residuals s (zero-trial (s .n) D)
 zero-residuals s D = ap (λ (f : ℕ → ℤ). filled mostTanks (s .n) (pos 0) f) (fun-ext (λ i. sym (residual-zero (s .n) D (row s i))))
 
-pub zero-reaches : (s : System) (D : ℕ) → scaled-tolerances (s .n) D (s .right-tolerances) ≡ reaches s (zero-trial (s .n) D)
+pub zero-reaches : (s : System) (D : ℕ) → scaled-tolerances (s .n) D (s .rows .right-tolerances) ≡ reaches s (zero-trial (s .n) D)
 zero-reaches s D = ap (λ (f : ℕ → ℕ). filled mostTanks (s .n) 0 f) (fun-ext (λ i. sym (reach-zero (s .n) D (row s i))))
 
 -- what the zero trial leaves, from these
-pub zero-measured : (s : System) (D u : ℕ) (R : List ℤ) (T : List ℕ) → s .n ≤ mostTanks → R ≡ scaled-sides (s .n) D (s .right-sides)
-    → T ≡ scaled-tolerances (s .n) D (s .right-tolerances) → u ≡ first-not (λ i. within (getD R i (pos 0)) (getD T i 0)) (s .n)
+pub zero-measured : (s : System) (D u : ℕ) (R : List ℤ) (T : List ℕ) → s .n ≤ mostTanks → R ≡ scaled-sides (s .n) D (s .rows .right-sides)
+    → T ≡ scaled-tolerances (s .n) D (s .rows .right-tolerances) → u ≡ first-not (λ i. within (getD R i (pos 0)) (getD T i 0)) (s .n)
     → record { unmet = u; residuals = R; reaches = T } ≡ standing s (zero-trial (s .n) D)
 zero-measured s D u R T h eR eT eu = measured s (zero-trial (s .n) D) h u R T (eR ∙ zero-residuals s D) (eT ∙ zero-reaches s D) eu

@@ -14,7 +14,7 @@ use Rattle.outcome.specs.Laws.{stops, first-goes-on, not-both}
 use Rattle.buffer.specs.Laws.{filled, length-onto}
 use Rattle.figures.specs.LoopLaws.{Reading, begun, stopped, turn, ended}
 use Rattle.limits.specs.Limits.{mostTanks}
-use Rattle.casefile.specs.Block.{Block, block, Counts, Room, RowsRoom, stacked, over, together}
+use Rattle.rows.specs.Block.{Block, block, Counts, Room, RowsRoom, stacked, over, together}
 use Rattle.casefile.specs.Layout.{rowSize}
 use Rattle.casefile.specs.Decode.{rowAt, rowStatus, rowsStatus}
 use Rattle.casefile.specs.BlockLaws.{SoundBlock, counts, Rows, none, together-sound, together-more, rows-more, next-row}

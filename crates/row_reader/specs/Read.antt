@@ -5,7 +5,7 @@ use Prim.Native.Nat.{ℕ}
 use Rattle.outcome.specs.declared.Status.{Status}
 use Rattle.outcome.specs.declared.Status.the-variants.{Accepted}
 use Rattle.figures.specs.Figures.{Answered}
-use Rattle.casefile.specs.Block.{Block, over, together}
+use Rattle.rows.specs.Block.{Block, over, together}
 use Rattle.casefile.specs.Case.{rowsFine}
 use Rattle.casefile.specs.Decode.{rowOf, rowAt, rowStatus, rowsStatus, rowsOf}
 

@@ -1,7 +1,7 @@
 // The reader of the rows of a case.
 ghost use Prim.Native.Nat.{_+_, _≤_};
 ghost use lib.ListN.{length, drop};
-ghost use Rattle.casefile.specs.Block.{block, RowLists, RowsRoom};
+ghost use Rattle.rows.specs.Block.{block, RowLists, RowsRoom};
 ghost use Rattle.casefile.specs.Layout.{rowLength};
 ghost use Rattle.row_reader.specs.Read.{FiguresRead, RowRead, RowsRead};
 use fields::HEADER_SIZE;

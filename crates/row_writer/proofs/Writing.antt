@@ -15,7 +15,7 @@ use Rattle.figures.specs.FigureLaws.{length-spread}
 use Rattle.fields.specs.Field.{headerSize, header}
 use Rattle.fields.specs.FieldLaws.{length-header, field-is-header}
 use Rattle.limits.specs.Limits.{mostTanks}
-use Rattle.casefile.specs.Block.{Block, Counts, Room, RowLists, RowsRoom, front, behind, split}
+use Rattle.rows.specs.Block.{Block, Counts, Room, RowLists, RowsRoom, front, behind, split}
 use Rattle.casefile.specs.Layout.{rowTag, rowLength, rowSize, tolerancesAt, rightSideAt, rightToleranceAt, rowBytes, rowField}
 use Rattle.casefile.specs.BlockLaws.{next-row}
 use Rattle.casefile.specs.RowLaws.{length-row, length-row-field}

@@ -3,7 +3,7 @@ ghost use mathlib.Core.Path.{_≡_};
 ghost use Prim.Native.Nat.{_*_, _≤_};
 ghost use lib.ListN.{length};
 ghost use Rattle.buffer.specs.Buffer.{onto, joined};
-ghost use Rattle.casefile.specs.Block.{block, RowLists, RowsRoom, split};
+ghost use Rattle.rows.specs.Block.{block, RowLists, RowsRoom, split};
 ghost use Rattle.casefile.specs.Layout.{rowSize, rowField};
 use fields::HEADER_SIZE;
 

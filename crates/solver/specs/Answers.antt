@@ -74,17 +74,17 @@ module _ (w : List (List ℤ)) (o : List ℕ) (s : System) (D : ℕ) where
 
 module _ (s : System) (D K : ℕ) where
   abbrev last : Progress
-  last = refined (eliminated (s .n) (s .coefficients) .rows) (eliminated (s .n) (s .coefficients) .order) s D K (start s D)
+  last = refined (eliminated (s .n) (s .rows .coefficients) .rows) (eliminated (s .n) (s .rows .coefficients) .order) s D K (start s D)
 
   last-reached : Reached s D (start s D) K last
-  last-reached = reached (eliminated (s .n) (s .coefficients) .rows) (eliminated (s .n) (s .coefficients) .order) s D K (start s D) (start-measured s D (start s D) refl)
+  last-reached = reached (eliminated (s .n) (s .rows .coefficients) .rows) (eliminated (s .n) (s .rows .coefficients) .order) s D K (start s D) (start-measured s D (start s D) refl)
 
   -- by the elimination's outcome
-  cases : (P : Solution → Type 0) → P (answered s D last) → ((k : ℕ) → outcome (s .n) (eliminated (s .n) (s .coefficients) .steps) ≡ Stopped k → P (kept s D ZeroPivot (start s D))) → P (solution s D K)
+  cases : (P : Solution → Type 0) → P (answered s D last) → ((k : ℕ) → outcome (s .n) (eliminated (s .n) (s .rows .coefficients) .steps) ≡ Stopped k → P (kept s D ZeroPivot (start s D))) → P (solution s D K)
   unfolding solution
-  cases P a b = go (outcome (s .n) (eliminated (s .n) (s .coefficients) .steps)) refl
+  cases P a b = go (outcome (s .n) (eliminated (s .n) (s .rows .coefficients) .steps)) refl
     where
-      go : (e : Elimination) → outcome (s .n) (eliminated (s .n) (s .coefficients) .steps) ≡ e → P (by-elimination e (answered s D last) (kept s D ZeroPivot (start s D)))
+      go : (e : Elimination) → outcome (s .n) (eliminated (s .n) (s .rows .coefficients) .steps) ≡ e → P (by-elimination e (answered s D last) (kept s D ZeroPivot (start s D)))
       go Complete q = a
       go (Stopped k) q = b k q
 
@@ -115,9 +115,9 @@ module _ (s : System) (D K : ℕ) where
       (λ k q e. absurd (let z : _≡_ {A = ℕ} 0 1 = cc in omega arith))
 
   -- refusal 8 exactly if at some step every candidate for the pivot is zero
-  pub zero-pivot-refused : (k : ℕ) → ZeroColumn (s .n) (s .coefficients) k → solution s D K .status ≡ ZeroPivot
+  pub zero-pivot-refused : (k : ℕ) → ZeroColumn (s .n) (s .rows .coefficients) k → solution s D K .status ≡ ZeroPivot
   zero-pivot-refused k c =
-      ap (λ (r : Solution). r .status) (sym (solution-refused s D K k (start s D) refl (column-zero-pivot (s .n) (s .coefficients) k c)))
+      ap (λ (r : Solution). r .status) (sym (solution-refused s D K k (start s D) refl (column-zero-pivot (s .n) (s .rows .coefficients) k c)))
 
   status-not : (t : Bool) → cond t Answered OutsideRange ≡ ZeroPivot → ⊥
   status-not true e = let z : _≡_ {A = ℕ} 0 1 = cc in omega arith
@@ -127,4 +127,4 @@ module _ (s : System) (D K : ℕ) where
   refused-zero-pivot =
       cases (λ r. r .status ≡ ZeroPivot → Refused s)
       (λ e. absurd (status-not (last .within) e))
-      (λ k q e. record { step = k; column = zero-pivot-column (s .n) (s .coefficients) k q })
+      (λ k q e. record { step = k; column = zero-pivot-column (s .n) (s .rows .coefficients) k q })

@@ -31,4 +31,4 @@ pub record Advanced (p : Progress) (m : ℕ) (q : Progress) : Type 0 where
 -- the step, counted from 0, at which every candidate for the pivot is zero
 pub record Refused (s : System) : Type 0 where
   pub step : ℕ
-  pub column : ZeroColumn (s .n) (s .coefficients) step
+  pub column : ZeroColumn (s .n) (s .rows .coefficients) step

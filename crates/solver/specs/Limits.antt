@@ -21,8 +21,8 @@ scale-limit = 10 ^ mostExponent
 pub record Limits (s : System) (D : ℕ) : Type 0 where
   pub rows : s .n ≤ mostTanks
   pub scale : D ≤ scale-limit
-  pub coefficients : Within (2 ^ 15) (s .coefficients)
-  pub right-sides : Within (2 ^ 31) (s .right-sides)
+  pub coefficients : Within (2 ^ 15) (s .rows .coefficients)
+  pub right-sides : Within (2 ^ 31) (s .rows .right-sides)
 
 -- n rows as a complete elimination leaves them, and their order
 pub record Eliminated (n : ℕ) (w : List (List ℤ)) (o : List ℕ) : Type 0 where

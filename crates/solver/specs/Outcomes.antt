@@ -39,17 +39,17 @@ module _ (s : System) (D : ℕ) where
   pub start-measured : (p : Progress) → p ≡ start s D → Measured s D p
   start-measured p e = rw e (record { figures = zeros-within mostTanks; standing-is = refl })
 
-  pub eliminated-whole : Limits s D → outcome (s .n) (eliminated (s .n) (s .coefficients) .steps) ≡ E.Complete
-      → Eliminated (s .n) (eliminated (s .n) (s .coefficients) .rows) (eliminated (s .n) (s .coefficients) .order)
+  pub eliminated-whole : Limits s D → outcome (s .n) (eliminated (s .n) (s .rows .coefficients) .steps) ≡ E.Complete
+      → Eliminated (s .n) (eliminated (s .n) (s .rows .coefficients) .rows) (eliminated (s .n) (s .rows .coefficients) .order)
   eliminated-whole h e =
       record {
-        factors = factors (s .n) (s .coefficients) (h .rows) (h .coefficients) (complete-steps (s .n) (eliminated (s .n) (s .coefficients) .steps) e);
-        order = permutation (s .n) (s .coefficients) (h .rows);
+        factors = factors (s .n) (s .rows .coefficients) (h .rows) (h .coefficients) (complete-steps (s .n) (eliminated (s .n) (s .rows .coefficients) .steps) e);
+        order = permutation (s .n) (s .rows .coefficients) (h .rows);
       }
 
   -- as a caller has them: equal to the elimination's rows and order, and to the start
-  module _ (w : List (List ℤ)) (o : List ℕ) (p : Progress) (rows-are : w ≡ eliminated (s .n) (s .coefficients) .rows) (order-is : o ≡ eliminated (s .n) (s .coefficients) .order) (start-is : p ≡ start s D) where
-    pub startable : Limits s D → outcome (s .n) (eliminated (s .n) (s .coefficients) .steps) ≡ E.Complete → Startable w o s D p
+  module _ (w : List (List ℤ)) (o : List ℕ) (p : Progress) (rows-are : w ≡ eliminated (s .n) (s .rows .coefficients) .rows) (order-is : o ≡ eliminated (s .n) (s .rows .coefficients) .order) (start-is : p ≡ start s D) where
+    pub startable : Limits s D → outcome (s .n) (eliminated (s .n) (s .rows .coefficients) .steps) ≡ E.Complete → Startable w o s D p
     startable h e =
         record {
           limits = h;
@@ -58,10 +58,10 @@ module _ (s : System) (D : ℕ) where
           none-made = ap (λ (q : Progress). q .rounds) start-is;
         }
 
-    pub solution-answered : (K : ℕ) (q : Progress) → q ≡ refined w o s D K p → outcome (s .n) (eliminated (s .n) (s .coefficients) .steps) ≡ E.Complete → answered s D q ≡ solution s D K
+    pub solution-answered : (K : ℕ) (q : Progress) → q ≡ refined w o s D K p → outcome (s .n) (eliminated (s .n) (s .rows .coefficients) .steps) ≡ E.Complete → answered s D q ≡ solution s D K
     unfolding solution
     solution-answered K q f e = rw (e, f, rows-are, order-is, start-is)
 
-  pub solution-refused : (K k : ℕ) (p : Progress) → p ≡ start s D → outcome (s .n) (eliminated (s .n) (s .coefficients) .steps) ≡ E.ZeroPivot k → kept s D ZeroPivot p ≡ solution s D K
+  pub solution-refused : (K k : ℕ) (p : Progress) → p ≡ start s D → outcome (s .n) (eliminated (s .n) (s .rows .coefficients) .steps) ≡ E.ZeroPivot k → kept s D ZeroPivot p ≡ solution s D K
   unfolding solution
   solution-refused K k p f e = rw (e, f)

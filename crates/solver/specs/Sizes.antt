@@ -24,7 +24,7 @@ use Rattle.solver.specs.Limits.{scale-limit, Limits, Ready, Updatable, G
 
 -- ---- document 01's limits are enough
 
-pub limits-enough : (s : System) (D : ℕ) → s .n ≤ mostTanks → D ≤ scale-limit → Within coefficientLimit (s .coefficients) → Within rightSideLimit (s .right-sides) → Limits s D
+pub limits-enough : (s : System) (D : ℕ) → s .n ≤ mostTanks → D ≤ scale-limit → Within coefficientLimit (s .rows .coefficients) → Within rightSideLimit (s .rows .right-sides) → Limits s D
 limits-enough s D n d a b =
     record { rows = n; scale = d; coefficients = λ j. omega (arith, a j); right-sides = λ j. omega (arith, b j) }
 

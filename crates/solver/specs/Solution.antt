@@ -40,4 +40,4 @@ solved r s D K =
 
 -- the solution of a system over the scale D, in at most K rounds
 unfoldable pub solution : System → ℕ → ℕ → Solution
-solution s D K = solved (eliminated (s .n) (s .coefficients)) s D K
+solution s D K = solved (eliminated (s .n) (s .rows .coefficients)) s D K

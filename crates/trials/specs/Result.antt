@@ -15,7 +15,7 @@ use Rattle.judge.specs.Finding.{Finding, factor-num, factor-den}
 use Rattle.bigendian.specs.Number.{be, bytes}
 use Rattle.figures.specs.Figures.{items, spread, all}
 use Rattle.fields.specs.Field.{field, fieldStatus}
-use Rattle.casefile.specs.Block.{split}
+use Rattle.rows.specs.Block.{split}
 use Rattle.casefile.specs.Case.{Case, rowsFine}
 use Rattle.casefile.specs.Layout.{rowBytes, encode}
 use Rattle.casefile.specs.Decode.{headStatus, rowOf, rowStatus, rowsStatus, trialStatus, trialOf, endStatus, tailStatus, inputStatus, caseOf, decode, stored}

@@ -11,7 +11,7 @@ use denote.Ref.{now}
 use Rattle.figures.specs.Figures.{Kind, u16, i32, u32, within, upTo, figures, all, RunAnswered}
 use Rattle.figures.specs.LoopLaws.{no}
 use Rattle.limits.specs.Limits.{coefficientLimit, toleranceLimit, rightSideLimit, rightToleranceLimit}
-use Rattle.casefile.specs.Block.{Block, block}
+use Rattle.rows.specs.Block.{Block, block}
 use Rattle.casefile.specs.Case.{rowsFine}
 use Rattle.casefile.specs.Layout.{tolerancesAt, rightSideAt, rightToleranceAt}
 use Rattle.casefile.specs.Decode.{rowOf}

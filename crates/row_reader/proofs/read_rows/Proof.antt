@@ -4,7 +4,7 @@ use Prim.Native.Nat.{_+_, _-_, _≤_}
 use native.Mathlib.Omega.{arith}
 use denote.Ref.{now}
 use borrow.Author.Needs.{needs}
-use Rattle.casefile.specs.Block.{Block, block, Room}
+use Rattle.rows.specs.Block.{Block, block, Room}
 use Rattle.limits.specs.Limits.{mostTanks}
 use Rattle.row_reader.proofs.Rows.{SameLengths, ReadingRows, begun-rows, lengths, next, stopped-rows, past, turn-rows, ended-rows}
 use Rattle.row_reader.proofs.read_rows.Statement.{statement}

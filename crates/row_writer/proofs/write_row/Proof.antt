@@ -2,7 +2,7 @@
 -- Assumes nothing.
 use native.Mathlib.Omega.{arith}
 use denote.Ref.{now}
-use Rattle.casefile.specs.Block.{block}
+use Rattle.rows.specs.Block.{block}
 use Rattle.row_writer.proofs.Writing.{row-written}
 use borrow.Author.Needs.{needs}
 use Rattle.row_writer.proofs.write_row.Statement.{statement}

@@ -6,7 +6,7 @@ use borrow.Author.Needs.{needs}
 use lib.ListN.{length}
 use denote.Ref.{now}
 use Rattle.limits.specs.Limits.{mostTanks}
-use Rattle.casefile.specs.Block.{block, Room}
+use Rattle.rows.specs.Block.{block, Room}
 use Rattle.casefile.specs.Layout.{rowSize}
 use Rattle.row_writer.proofs.Writing.{Writing, begun, next, row-room, row-lists, turn, ended}
 use Rattle.row_writer.proofs.write_rows.Statement.{statement}

@@ -1,0 +1,1 @@
+// The rows of a case, A, E, b and f, as four lists: definitions, in specs/.
