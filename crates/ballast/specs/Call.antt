@@ -2,7 +2,7 @@
 -- Definitions only. Assumes nothing.
 use mathlib.Core.Bool.{false}
 use mathlib.Core.List.{List}
-use Prim.Native.Nat.{ℕ, zero, suc, _^_, _≤_}
+use Prim.Native.Nat.{ℕ, _^_, _≤_}
 use lib.ListN.{length}
 use lib.IntN.{pos}
 use Rattle.limits.specs.Limits.{mostTanks, mostExponent}
@@ -12,6 +12,7 @@ use Rattle.outcome.specs.declared.Status.{Status as FileStatus}
 use Rattle.outcome.specs.declared.Status.the-variants.{Accepted, Refused as RefusedBy}
 use Rattle.integers.specs.Tables.{table}
 use Rattle.casefile.specs.declared.Case.{Case}
+use Rattle.casefile.specs.Case.{whereBrought}
 use Rattle.casefile.specs.Decode.{Decoded, accepted, refused, decode, heldRows, stored}
 use Rattle.casefile.specs.Write.{Written, filed, inRoom}
 use Rattle.judge.specs.declared.Judgement.{Judgement}
@@ -45,8 +46,7 @@ brought c =
 
 -- "that answer is the trial brought or, for K above 0, the one kept from the steps"
 abbrev pub worked-in : ℕ → Case → Solution
-worked-in zero c = brought c
-worked-in (suc k) c = solution (systemOf c) (scaleOf (c .exponent)) (suc k)
+worked-in k c = whereBrought k (brought c) (solution (systemOf c) (scaleOf (c .exponent)) k)
 
 unfoldable pub worked : Case → Solution
 worked c = worked-in (c .rounds) c

@@ -1,6 +1,6 @@
 -- The answer's definition, case by case, as the code meets it. Assumes nothing.
-use mathlib.Core.Path.{_≡_, refl, _∙_}
-use Prim.Native.Nat.{ℕ, zero, suc}
+use mathlib.Core.Path.{_≡_, refl, sym, _∙_}
+use Prim.Native.Nat.{ℕ}
 use Rattle.outcome.specs.declared.Refusal.{Refusal}
 use Rattle.outcome.specs.declared.Refusal.the-variants.{ZeroPivot, OutsideRange}
 use Rattle.outcome.specs.declared.Status.the-variants.{Accepted, Refused as RefusedBy}
@@ -9,6 +9,7 @@ use Rattle.casefile.specs.declared.Case.{Case}
 use Rattle.casefile.specs.Case.{Case as Figures}
 use Rattle.casefile.specs.Decode.{Decoded, accepted, refused, stored}
 use Rattle.casefile.specs.StoredLaws.{Whole}
+use Rattle.casefile.specs.TailLaws.{not-brought}
 use Rattle.judge.specs.declared.Judgement.{Judgement}
 use Rattle.judge.specs.System.{trial}
 use Rattle.judge.specs.Judgement.{judgement}
@@ -16,7 +17,7 @@ use Rattle.solver.specs.declared.Solution.{Solution}
 use Rattle.solver.specs.declared.Status.{Status}
 use Rattle.solver.specs.declared.Status.the-variants.{Answered, ZeroPivot as NoPivot, OutsideRange as Outside}
 use Rattle.solver.specs.Solution.{solution}
-use Rattle.ballast.specs.Call.{scaleOf, systemOf, worked-in, worked, status-of, answer-with, no-answer, answer-of}
+use Rattle.ballast.specs.Call.{scaleOf, systemOf, worked, status-of, answer-with, no-answer, answer-of}
 
 -- ---- what was worked out
 
@@ -28,11 +29,7 @@ module _ (c : Case) (d : ℕ) (s : d ≡ scaleOf (c .exponent)) where
 
   pub worked-solved : (a : Solution) → (c .rounds ≡ 0 → ⊥) → a ≡ solution (systemOf c) d (c .rounds) → a ≡ worked c
   unfolding worked
-  worked-solved a k e = (rw s at e) ∙ go (c .rounds) k
-    where
-      go : (m : ℕ) → (m ≡ 0 → ⊥) → solution (systemOf c) (scaleOf (c .exponent)) m ≡ worked-in m c
-      go zero h = absurd (h refl)
-      go (suc m) h = refl
+  worked-solved a k e = (rw s at e) ∙ sym (not-brought (c .rounds) _ _ k)
 
 -- ---- the answer of a file
 

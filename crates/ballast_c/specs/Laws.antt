@@ -10,6 +10,7 @@ use Rattle.outcome.specs.declared.Refusal.{Refusal}
 use Rattle.outcome.specs.declared.Refusal.the-variants.{BufferTooShort}
 use Rattle.outcome.specs.declared.Outcome.{Outcome}
 use Rattle.outcome.specs.declared.Outcome.the-variants.{Count, Refused}
+use Rattle.buffer.specs.Buffer.{Wrote}
 use Rattle.buffer.specs.Laws.{holds, within-front}
 use Rattle.outcome.specs.declared.Status.the-variants.{Accepted}
 use Rattle.outcome.specs.Outcome.{said}
@@ -21,7 +22,7 @@ use Rattle.casefile.specs.StoredLaws.{Whole}
 use Rattle.casefile.specs.CaseLaws.{good, decode-fine}
 use Rattle.casefile.specs.Write.{leaves, write}
 use Rattle.casefile.specs.WriteLaws.{filed-short, filed-whole, count-le as case-count-le}
-use Rattle.report.specs.Text.{text-room, Printed}
+use Rattle.report.specs.Text.{text-room}
 use Rattle.verdict_text.specs.Verdict.{verdict-of}
 use Rattle.ballast.specs.Call.{answer-of}
 use Rattle.ballast.specs.Demand.{Promise}
@@ -86,22 +87,22 @@ module _ (input out : List ℕ) where
   text-short r h e = returned (Refused BufferTooShort) (filed-short text-room Accepted (verdict-of text-room (answer-of (decode input))) out h) r e
 
   module _ (count : ℕ) (after : List ℕ) (h : text-room ≤ length out) (same : length after ≡ length (take text-room out))
-      (p : Printed (verdict-of (length (take text-room out)) (answer-of (decode input))) (take text-room out) count after) where
+      (p : Wrote (verdict-of (length (take text-room out)) (answer-of (decode input))) 0 (take text-room out) count after) where
     abbrev t : List ℕ
     t = verdict-of text-room (answer-of (decode input))
 
-    front : Printed t (take text-room out) count after
+    front : Wrote t 0 (take text-room out) count after
     front = rw (length-take-le text-room out h) at p
 
     -- what was written over a part's front is no longer than the part
     pub text-le : count ≤ text-room
     text-le =
-        omega (arith, front .size, same, length-take-le text-room out h, ap length (front .bytes), holds (length t) t (take text-room out) refl)
+        omega (arith, front .place, same, length-take-le text-room out h, ap length (front .bytes), holds (length t) t (take text-room out) refl)
 
     pub text-written : (r : ℤ) → r ≡ number (Count count) → Returned r (after ++ drop text-room out) (text-call input out)
     unfolding text-call
     text-written r e =
         returned (Count count)
-        (filed-whole text-room Accepted t out count _ h refl (front .size)
-        (rw (front .bytes) (within-front text-room t out (omega (arith, front .size, text-le)) h)))
+        (filed-whole text-room Accepted t out h refl
+        (record { place = front .place; bytes = rw (front .bytes) (within-front text-room t out (omega (arith, front .place, text-le)) h) }))
         r e

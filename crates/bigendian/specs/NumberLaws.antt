@@ -1,22 +1,40 @@
 -- The laws of numbers of w bytes, once for every w: decode of encode, encode of decode, and a number in two parts. Assumes nothing.
 use mathlib.Core.Path.{_≡_, refl, sym, ap}
 use Prim.Native.Nat.{ℕ, zero, suc, _+_, _*_, _/_, _%_, _^_, _≤_, _<_}
+use mathlib.Core.Bool.{Bool, true}
 use mathlib.Core.List.{List, [], _∷_, _++_}
 use lib.ListN.{length, take, drop, getD, length-append, length-take, length-drop}
 use lib.Arith.{digits-lt, digits-div, digits-mod, lt-one}
 use lib.Seq.{length-take-le, drop-cons, drop-drop, take-add}
 use native.Mathlib.Nat.{div-lt-iff-lt-mul, mod-lt, div-add-mod', zero-add, pow-suc, mul-comm, one-le-pow, zero-mul, mul-assoc, add-mul, add-assoc}
 use native.Mathlib.Omega.{arith}
-use lib.Dec.{lit<, lit≤}
+use lib.Dec.{lit<, lit≤, ltb}
+use borrow.Author.Tests.{lt-ltb, ltb-true}
 use lib.Pow.{pow-add}
-use Rattle.buffer.specs.Buffer.{onto}
-use Rattle.buffer.specs.Laws.{part, put, then}
+use Rattle.buffer.specs.Buffer.{onto, all}
+use Rattle.buffer.specs.AllLaws.{and-true, all-append, all-take, all-drop}
+use Rattle.buffer.specs.Laws.{part, put}
+use Rattle.buffer.specs.WroteLaws.{wrote-two}
 use Rattle.bigendian.specs.Number.{be, bytes}
 
 -- every element is a byte
-pub data Bytes : List ℕ → Type 0 where
-  none : Bytes []
-  one : {x : ℕ} {s : List ℕ} → x < 256 → Bytes s → Bytes (x ∷ s)
+abbrev byte : ℕ → Bool
+byte x = ltb x 256
+
+pub record Bytes (s : List ℕ) : Type 0 where
+  each : all byte s ≡ true
+
+none : Bytes []
+unfolding all
+none = record { each = refl }
+
+one : {x : ℕ} {s : List ℕ} → x < 256 → Bytes s → Bytes (x ∷ s)
+unfolding all
+one {x} h b = record { each = rw (lt-ltb x 256 h, b .each) }
+
+parts : {x : ℕ} {s : List ℕ} → Bytes (x ∷ s) → (x < 256) × Bytes s
+unfolding all
+parts {x} {s} b = let w = and-true (byte x) (all byte s) (b .each) in (ltb-true x 256 (w .0), record { each = w .1 })
 
 pub length-bytes : (w n : ℕ) → length (bytes w n) ≡ w
 unfolding bytes
@@ -31,38 +49,38 @@ unfolding be bytes
 be-bytes zero n h = sym (lt-one h)
 be-bytes (suc w) n h = rw (length-bytes w (n % 256 ^ w), be-bytes w (n % 256 ^ w) (mod-lt n (pos256 w))) (div-add-mod' n (256 ^ w))
 
-pub be-lt : {s : List ℕ} → Bytes s → be s < 256 ^ length s
+pub be-lt : (s : List ℕ) → Bytes s → be s < 256 ^ length s
 unfolding be
-be-lt none = lit< tt
-be-lt (one {s = s} h r) = rw (pow-suc 256 (length s), mul-comm (256 ^ length s) 256) (digits-lt h (be-lt r))
+be-lt [] b = lit< tt
+be-lt (x ∷ s) b =
+    let p = parts b in
+    rw (pow-suc 256 (length s), mul-comm (256 ^ length s) 256) (digits-lt (p .0) (be-lt s (p .1)))
 
-pub bytes-be : {s : List ℕ} → Bytes s → bytes (length s) (be s) ≡ s
+pub bytes-be : (s : List ℕ) → Bytes s → bytes (length s) (be s) ≡ s
 unfolding be bytes
-bytes-be none = refl
-bytes-be (one {x = x} h r) = rw (digits-div x (be-lt r), digits-mod x (be-lt r), bytes-be r)
+bytes-be [] b = refl
+bytes-be (x ∷ s) b =
+    let r = parts b .1 in
+    rw (digits-div x (be-lt s r), digits-mod x (be-lt s r), bytes-be s r)
 
 -- what a slice of bytes tells of its elements
 pub bytes-from : (s : List ℕ) → ((i : ℕ) → getD s i 0 < 256) → Bytes s
 bytes-from [] h = none
 bytes-from (x ∷ s) h = one (h 0) (bytes-from s (λ i. h (suc i)))
 
-pub bytes-take : (n : ℕ) {s : List ℕ} → Bytes s → Bytes (take n s)
-bytes-take zero b = none
-bytes-take (suc n) none = none
-bytes-take (suc n) (one h b) = one h (bytes-take n b)
-
 pub bytes-drop : (n : ℕ) {s : List ℕ} → Bytes s → Bytes (drop n s)
-bytes-drop zero b = b
-bytes-drop (suc n) none = none
-bytes-drop (suc n) (one h b) = bytes-drop n b
+bytes-drop n {s} b = record { each = all-drop byte n s (b .each) }
 
 -- w bytes of the input are the bytes of their number, which w bytes can hold
 module _ (w : ℕ) (s : List ℕ) (b : Bytes s) (h : w ≤ length s) where
+  first-bytes : Bytes (take w s)
+  first-bytes = record { each = all-take byte w s (b .each) }
+
   pub bytes-of : bytes w (be (take w s)) ≡ take w s
-  bytes-of = rw (length-take-le w s h) at (bytes-be (bytes-take w b))
+  bytes-of = rw (length-take-le w s h) at (bytes-be (take w s) first-bytes)
 
   pub be-of : be (take w s) < 256 ^ w
-  be-of = rw (length-take-le w s h) at (be-lt (bytes-take w b))
+  be-of = rw (length-take-le w s h) at (be-lt (take w s) first-bytes)
 
 -- ---- a number in two parts, once for every two widths
 
@@ -76,10 +94,6 @@ pub be-two : (v w : ℕ) (s : List ℕ) (at : ℕ) → at + (v + w) ≤ length s
 be-two v w s at h =
     let l : length (take w (drop (at + v) s)) ≡ w = simp (length-take, length-drop) (omega arith) in
     rw (take-add v w (drop at s), drop-drop v at s, be-append (take v (drop at s)) (take w (drop (at + v) s)), l)
-
-bytes-append : {a b : List ℕ} → Bytes a → Bytes b → Bytes (a ++ b)
-bytes-append none k = k
-bytes-append (one h r) k = one h (bytes-append r k)
 
 bytes-are : (w x : ℕ) → x < 256 ^ w → Bytes (bytes w x)
 unfolding bytes
@@ -96,13 +110,14 @@ bytes-two v w x h =
     let hb : b < 256 ^ w = mod-lt x (pos256 w) in
     let n : length (bytes v a ++ bytes w b) ≡ v + w = simp (length-append, length-bytes) in
     let e : be (bytes v a ++ bytes w b) ≡ x = rw (be-append (bytes v a) (bytes w b), be-bytes v a ha, be-bytes w b hb, length-bytes w b) (div-add-mod' x (256 ^ w)) in
-    rw (n, e) at (bytes-be (bytes-append (bytes-are v a ha) (bytes-are w b hb)))
+    let both : Bytes (bytes v a ++ bytes w b) = record { each = all-append byte _ _ (bytes-are v a ha .each) (bytes-are w b hb .each) } in
+    rw (n, e) at (bytes-be (bytes v a ++ bytes w b) both)
 
 -- the two parts written one after the other: the buffer xs₀, then xs with the first part over its front, and ys the rest with the second over its own
 pub written-two : (v w x : ℕ) (xs₀ xs ys : List ℕ) → x < 256 ^ (v + w) → xs ≡ onto (bytes v (x / 256 ^ w)) xs₀
     → ys ≡ onto (bytes w (x % 256 ^ w)) (part xs v) → put xs v ys ≡ onto (bytes (v + w) x) xs₀
 written-two v w x xs₀ xs ys h e f =
-    rw (bytes-two v w x h) (then xs₀ xs (bytes v (x / 256 ^ w)) (bytes w (x % 256 ^ w)) v ys e (length-bytes v _) f)
+    rw (bytes-two v w x h) (wrote-two (bytes v (x / 256 ^ w)) (bytes w (x % 256 ^ w)) xs₀ e (length-bytes v _) f)
 
 -- ---- a single byte
 

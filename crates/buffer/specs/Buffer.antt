@@ -1,6 +1,9 @@
--- A list laid over the front of a buffer, or over it from a place on; lists one after another. Definitions only. Assumes nothing.
+-- A list laid over the front of a buffer, or over it from a place on; what a writer asks and promises; lists one after another; a test of every
+-- element. Definitions only. Assumes nothing.
+use mathlib.Core.Bool.{Bool, true, _&&_}
 use mathlib.Core.List.{List, [], _∷_, _++_}
-use Prim.Native.Nat.{ℕ, zero, suc}
+use mathlib.Core.Path.{_≡_}
+use Prim.Native.Nat.{ℕ, zero, suc, _+_, _≤_}
 use lib.ListN.{length, take, drop}
 
 -- the list b written over the front of out; what lies beyond b stays
@@ -11,6 +14,15 @@ onto b out = b ++ drop (length b) out
 abbrev pub onto-at : {X : Type 0} → ℕ → List X → List X → List X
 onto-at at b out = take at out ++ onto b (drop at out)
 
+-- bytes b have room from `at` on
+pub record Room (b : List ℕ) (at : ℕ) (out : List ℕ) : Type 0 where
+  pub room : at + length b ≤ length out
+
+-- what a writer promises: it wrote b from `at` on, changed nothing else, and returned the place behind it, which from the front is b's length
+pub record Wrote (b : List ℕ) (at : ℕ) (before : List ℕ) (next : ℕ) (after : List ℕ) : Type 0 where
+  pub place : next ≡ at + length b
+  pub bytes : after ≡ onto-at at b before
+
 -- the pieces 0 to n − 1, one behind the other
 unfoldable pub run : {X : Type 0} → ℕ → (ℕ → List X) → List X
 run zero piece = []
@@ -20,3 +32,12 @@ run (suc n) piece = run n piece ++ piece n
 abbrev pub joined : {A X : Type 0} → (A → List X) → List A → List X
 joined f [] = []
 joined f (a ∷ rest) = f a ++ joined f rest
+
+-- lists one after another
+abbrev pub concat : {X : Type 0} → List (List X) → List X
+concat lists = joined (λ l. l) lists
+
+-- whether every element passes a test
+unfoldable pub all : {X : Type 0} → (X → Bool) → List X → Bool
+all p [] = true
+all p (x ∷ xs) = p x && all p xs

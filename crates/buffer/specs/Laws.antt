@@ -98,11 +98,6 @@ module _ {X : Type 0} where
   pub put-is : (xs b : List X) (at : ℕ) {ys : List X} → ys ≡ onto b (part xs at) → put xs at ys ≡ onto-at at b xs
   put-is xs b at f = rw (f, past xs at, part-is xs at, append-nil)
 
-  -- b was written over the front of the part that begins where what is done ends
-  pub then : (xs₀ xs done b : List X) (at : ℕ) (ys : List X) → xs ≡ onto done xs₀ → length done ≡ at
-      → ys ≡ onto b (part xs at) → put xs at ys ≡ onto (done ++ b) xs₀
-  then xs₀ xs done b at ys e l f = put-is xs b at f ∙ rw e (onto-then xs₀ done b l)
-
   -- the part from `at` of `count` elements was filled with b
   pub filled : (xs₀ xs done b : List X) (at count : ℕ) → xs ≡ onto done xs₀ → length done ≡ at → length b ≡ count
       → putMid at count xs b ≡ onto (done ++ b) xs₀

@@ -1,3 +1,5 @@
 pub mod Buffer
 pub mod Laws
+pub mod WroteLaws
 pub mod RunLaws
+pub mod AllLaws

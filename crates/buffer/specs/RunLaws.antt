@@ -1,5 +1,5 @@
 -- Lists one after another: how long they are, where each stands, and the loop that writes them into a buffer from a place on. Assumes nothing.
-use mathlib.Core.Path.{_≡_, refl, sym, ap, _∙_}
+use mathlib.Core.Path.{_≡_, refl, sym, _∙_}
 use mathlib.Core.List.{List, [], _∷_, _++_, append-assoc, append-nil, map}
 use Prim.Native.Nat.{ℕ, zero, suc, _+_, _*_, _≤_, _<_}
 use native.Mathlib.Nat.{mul-zero, mul-suc, suc-mul, mul-le-mul-right}
@@ -8,8 +8,9 @@ use native.Mathlib.Decide.{ℕ-discrete}
 use native.Mathlib.Omega.{arith}
 use lib.ListN.{length, getD, take, drop, length-append}
 use lib.Seq.{take-suc, drop-at}
-use Rattle.buffer.specs.Buffer.{onto, onto-at, run, joined}
-use Rattle.buffer.specs.Laws.{part, put, put-is, length-onto-at, onto-at-none, onto-at-then}
+use Rattle.buffer.specs.Buffer.{onto, Wrote, run, joined}
+use Rattle.buffer.specs.Laws.{part, put, put-is}
+use Rattle.buffer.specs.WroteLaws.{wrote-then, wrote-none, wrote-same}
 
 -- ---- lengths and places
 
@@ -42,6 +43,11 @@ pub joined-map : {A X : Type 0} (g : A → List X) (xs : List A) → joined (λ 
 joined-map g [] = refl
 joined-map g (x ∷ xs) = rw (joined-map g xs)
 
+-- a list's elements one by one
+pub joined-each : {X : Type 0} (l : List X) → joined (λ x. x ∷ []) l ≡ l
+joined-each [] = refl
+joined-each (x ∷ l) = rw (joined-each l)
+
 module _ {A X : Type 0} (f : A → List X) where
   pub joined-append : (xs ys : List A) → joined f (xs ++ ys) ≡ joined f xs ++ joined f ys
   joined-append [] ys = refl
@@ -54,46 +60,42 @@ module _ {A X : Type 0} (f : A → List X) where
   joined-run d l (suc i) h =
       rw (take-suc l i d h, joined-append (take i l) (getD l i d ∷ []), append-nil (f (getD l i d)), joined-run d l i (omega arith))
 
--- ---- the loop that writes n pieces of at most w elements each, from `at` on: i are written, and the next begins at `next`
+-- ---- the loop that writes n pieces of at most w bytes each, from `at` on: i are written, and the next begins at `next`
 
-module _ {X : Type 0} (w : ℕ) (piece : ℕ → List X) (n at : ℕ) (out₀ : List X) where
-  pub record Running (out : List X) (i next : ℕ) : Type 0 where
+module _ (w : ℕ) (piece : ℕ → List ℕ) (n at : ℕ) (out₀ : List ℕ) where
+  pub record Running (out : List ℕ) (i next : ℕ) : Type 0 where
     pub room : at + n * w ≤ length out₀
     pub count : i ≤ n
     pub short : length (run i piece) ≤ i * w
-    pub place : next ≡ at + length (run i piece)
     pub same : length out ≡ length out₀
-    pub is : out ≡ onto-at at (run i piece) out₀
+    pub wrote : Wrote (run i piece) at out₀ next out
 
-module _ {X : Type 0} {w : ℕ} {piece : ℕ → List X} {n at : ℕ} {out₀ : List X} where
+module _ {w : ℕ} {piece : ℕ → List ℕ} {n at : ℕ} {out₀ : List ℕ} where
   pub run-begun : at + n * w ≤ length out₀ → Running w piece n at out₀ out₀ 0 at
   unfolding run
-  run-begun h =
-      record { room = h; count = omega arith; short = omega arith; place = omega arith; same = refl; is = sym (onto-at-none at out₀) }
+  run-begun h = record { room = h; count = omega arith; short = omega arith; same = refl; wrote = wrote-none at }
 
-  module _ {out : List X} {i next : ℕ} (r : Running w piece n at out₀ out i next) where
+  module _ {out : List ℕ} {i next : ℕ} (r : Running w piece n at out₀ out i next) where
     -- the next piece has room
     pub run-next : i < n → next + w ≤ length out
-    run-next h = let m : suc i * w ≤ n * w = mul-le-mul-right w h in omega (arith, suc-mul i w, r)
+    run-next h = let m : suc i * w ≤ n * w = mul-le-mul-right w h in omega (arith, suc-mul i w, r, r .wrote .place)
 
-    pub run-turn : {last : ℕ} {out₁ : List X} → i < n → length (piece i) ≤ w → last ≡ next + length (piece i) → out₁ ≡ onto-at next (piece i) out
-        → Running w piece n at out₀ out₁ (i + 1) last
+    pub run-turn : {last : ℕ} {out₁ : List ℕ} → i < n → length (piece i) ≤ w → Wrote (piece i) next out last out₁ → Running w piece n at out₀ out₁ (i + 1) last
     unfolding run
-    run-turn h s p e =
+    run-turn h s v =
         let l : length (run (suc i) piece) ≡ length (run i piece) + length (piece i) = length-append (run i piece) (piece i) in
         record {
           room = r .room;
           count = omega arith;
           short = rw (add-one i) (omega (arith, l, suc-mul i w, r .short));
-          place = rw (add-one i) (omega (arith, l, r .place));
-          same = ap length e ∙ length-onto-at next (piece i) out (omega (arith, run-next h)) ∙ r .same;
-          is = e ∙ rw (add-one i, r .place, r .is) (onto-at-then at (run i piece) (piece i) out₀ (omega (arith, r .room)));
+          same = wrote-same (record { room = omega (arith, run-next h) }) v ∙ r .same;
+          wrote = rw (add-one i) (wrote-then (omega (arith, r .room)) (r .wrote) v);
         }
 
-    -- a piece of w elements, over the front of the part that is left
-    pub run-turn-lent : {ys : List X} → i < n → length (piece i) ≡ w → ys ≡ onto (piece i) (part out next)
+    -- a piece of w bytes, over the front of the part that is left
+    pub run-turn-lent : {ys : List ℕ} → i < n → length (piece i) ≡ w → ys ≡ onto (piece i) (part out next)
         → Running w piece n at out₀ (put out next ys) (i + 1) (next + w)
-    run-turn-lent h k e = run-turn h (omega arith) (omega arith) (put-is out (piece i) next e)
+    run-turn-lent h k e = run-turn h (omega arith) (record { place = omega arith; bytes = put-is out (piece i) next e })
 
     pub run-ended : n ≤ i → Running w piece n at out₀ out n next
     run-ended h = let e : i ≡ n = omega (arith, r .count) in rw e at r

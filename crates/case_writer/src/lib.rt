@@ -3,7 +3,7 @@ ghost use mathlib.Core.Path.{_≡_};
 ghost use Prim.Native.Nat.{_≤_};
 ghost use lib.ListN.{length};
 ghost use Rattle.outcome.specs.declared.Status.the-variants.{Accepted};
-ghost use Rattle.buffer.specs.Buffer.{onto};
+ghost use Rattle.buffer.specs.Buffer.{onto, Wrote};
 ghost use Rattle.limits.specs.Limits.{mostTanks};
 ghost use Rattle.casefile.specs.Case.{given, counted, figuresFine, caseStatus};
 ghost use Rattle.casefile.specs.Layout.{headField, longestCase, encode, trialBytes};
@@ -102,8 +102,7 @@ fn write_fields(
 ) -> usize
     requires { ⌜ longestCase ≤ length (now out) ⌝ }
     requires { ⌜ caseStatus (given n exponent rounds (now a) (now t) (now b) (now f) (now y)) ≡ Accepted ⌝ }
-    ensures { λ r. ⌜ r ≡ length (encode (given n exponent rounds (now (a .entry)) (now (t .entry)) (now (b .entry)) (now (f .entry)) (now (y .entry)))) ⌝ }
-    ensures { λ r. ⌜ now (out .exit) ≡ onto (encode (given n exponent rounds (now (a .entry)) (now (t .entry)) (now (b .entry)) (now (f .entry)) (now (y .entry)))) (now (out .entry)) ⌝ }
+    ensures { λ r. ⌜ Wrote (encode (given n exponent rounds (now (a .entry)) (now (t .entry)) (now (b .entry)) (now (f .entry)) (now (y .entry)))) 0 (now (out .entry)) r (now (out .exit)) ⌝ }
 {
     write_head(out, n, exponent, rounds);
     row_writer::write_rows(&mut out[casefile::ROWS_AT..], n, a, t, b, f);

@@ -1,20 +1,20 @@
 -- Blocks of rows: what is counted and within its limits stays so in a part and in the whole, and a block is its rows put together.
 -- Assumes nothing.
-use mathlib.Core.Path.{_≡_, refl, ap}
+use mathlib.Core.Path.{_≡_, refl, sym, ap, _∙_}
 use mathlib.Core.List.{List, [], _∷_, _++_, append-assoc, append-nil}
 use mathlib.Core.Bool.{Bool, true}
-use Prim.Native.Nat.{ℕ, zero, suc, _+_, _*_, _<_}
+use Prim.Native.Nat.{ℕ, zero, suc, _+_, _*_, _≤_, _<_}
 use native.Mathlib.Omega.{arith}
 use native.Mathlib.Nat.{suc-mul, zero-mul, mul-le-mul-right}
-use lib.ListN.{length, take, drop, length-append, length-take, length-drop, take-append-drop}
-use lib.Seq.{take-at, drop-at}
+use lib.ListN.{length, getD, take, drop, length-append, length-take, length-drop, take-append-drop}
+use lib.Seq.{take-at, drop-at, drop-drop}
 use lib.IntN.{ℤ}
-use Rattle.buffer.specs.Buffer.{onto}
+use Rattle.buffer.specs.Buffer.{onto, all}
 use Rattle.buffer.specs.Laws.{take-onto, holds}
-use Rattle.figures.specs.Figures.{upTo, within, all}
-use Rattle.figures.specs.FigureLaws.{and-true, all-append, all-take, all-drop}
+use Rattle.figures.specs.Figures.{upTo, within}
+use Rattle.buffer.specs.AllLaws.{and-true, all-append, all-take, all-drop}
 use Rattle.limits.specs.Limits.{coefficientLimit, toleranceLimit, rightSideLimit, rightToleranceLimit}
-use Rattle.rows.specs.Block.{Block, Counts, Room, RowsRoom, each, front, behind, paired, stacked, over, split, together}
+use Rattle.rows.specs.Block.{Block, Counts, Holds, RowsRoom, each, front, behind, paired, stacked, over, split, together}
 use Rattle.casefile.specs.Case.{rowsFine}
 
 -- ---- a list of k figures that pass a test
@@ -100,7 +100,7 @@ module _ {k m : ℕ} (r s : Block) (e : Counts k m r) where
   pub front-over : front k m (over r s) ≡ r
   front-over = each-paired (λ X. take) (λ X. onto) (λ X l m. l) (λ X k l m. take-onto l m k) r s e
 
-  pub room-over : Room k m (over r s)
+  pub room-over : Holds k m (over r s)
   room-over =
       record {
         la = holds k (r .coefficients) (s .coefficients) (e .la);
@@ -129,6 +129,27 @@ module _ (n : ℕ) where
 
     sound-behind : SoundBlock (m * n) m (behind n 1 r)
     sound-behind = sound-each (λ X. drop) n 1 r (λ X p l h. behind-sound n (m * n) (more m) h) (λ X p l h. behind-sound 1 m (one-more m) h) s
+
+  -- row i of a block
+  abbrev pub rowAt : Block → ℕ → Block
+  rowAt r i = front n 1 (behind (i * n) i r)
+
+  behind-more : (i : ℕ) (r : Block) → behind (i * n) i (behind n 1 r) ≡ behind (suc i * n) (suc i) r
+  behind-more i r =
+      rw (
+        drop-drop (i * n) n (r .coefficients),
+        drop-drop (i * n) n (r .tolerances),
+        drop-drop i 1 (r .right-sides),
+        drop-drop i 1 (r .right-tolerances),
+        more i,
+        one-more i,
+      )
+
+  pub split-at : (m : ℕ) (r : Block) (i : ℕ) (d : Block) → i < m → getD (split n m r) i d ≡ rowAt r i
+  unfolding split
+  split-at zero r i d h = absurd (omega arith)
+  split-at (suc m) r zero d h = rw (zero-mul n)
+  split-at (suc m) r (suc i) d h = split-at m (behind n 1 r) i d (omega arith) ∙ ap (front n 1) (behind-more i r)
 
   pub split-sound : (m : ℕ) (r : Block) → SoundBlock (m * n) m r → Rows n (split n m r)
   unfolding split
@@ -184,7 +205,23 @@ pub rows-more : {n : ℕ} {rs : List Block} {r : Block} → Rows n rs → SoundB
 rows-more none s = one s none
 rows-more (one q g) s = one q (rows-more g s)
 
--- ---- room for n rows is room for the next
+-- ---- a loop over n rows of lists that hold them: i are done, and the next begins at `from`
 
-pub next-row : {n i from : ℕ} {r : Block} → RowsRoom n r → from ≡ i * n → i < n → Room (from + n) (i + 1) r
-next-row {n} {i} w e h = omega (arith, w .room, mul-le-mul-right n h, suc-mul i n)
+pub record AtRow (n : ℕ) (lists : Block) (i from : ℕ) : Type 0 where
+  pub room : RowsRoom n lists
+  pub place : from ≡ i * n
+
+module _ {n : ℕ} {lists : Block} where
+  pub first-row : RowsRoom n lists → AtRow n lists 0 0
+  first-row w = record { room = w; place = sym (zero-mul n) }
+
+  module _ {i from : ℕ} (r : AtRow n lists i from) where
+    -- the rows so far find room, and so does the next
+    pub rows-held : i ≤ n → Holds from i lists
+    rows-held h = omega (arith, r .room .room, r .place, mul-le-mul-right n h)
+
+    pub row-held : i < n → Holds (from + n) (i + 1) lists
+    row-held h = omega (arith, r .room .room, r .place, mul-le-mul-right n h, suc-mul i n)
+
+    pub next-row : AtRow n lists (i + 1) (from + n)
+    next-row = record { room = r .room; place = omega (arith, r .place, suc-mul i n) }

@@ -9,7 +9,8 @@ use Rattle.limits.specs.Limits.{mostTanks, mostExponent, mostRounds, coefficien
 use Rattle.outcome.specs.declared.Refusal.the-variants.{WrongLength, OutsideLimits}
 use Rattle.outcome.specs.declared.Status.{Status}
 use Rattle.outcome.specs.Outcome.{check, first}
-use Rattle.figures.specs.Figures.{upTo, within, all}
+use Rattle.buffer.specs.Buffer.{all}
+use Rattle.figures.specs.Figures.{upTo, within}
 use Rattle.rows.specs.Block.{Block, block}
 
 -- document 01's n, e and K (rounds, its own term), its rows, and its trial Y

@@ -5,28 +5,29 @@ use mathlib.Core.List.{List, [], _∷_, _++_, append-nil, map}
 use mathlib.Core.Bool.{true}
 use Prim.Native.Nat.{ℕ, _+_, _*_, _≤_}
 use native.Mathlib.Omega.{arith}
-use lib.ListN.{length, take, drop, length-append}
-use lib.Seq.{drop-cons, drop-drop, drop-at}
+use lib.ListN.{length, drop, length-append}
+use lib.Seq.{drop-drop, drop-at}
 use lib.Dec.{leb, eqb}
 use borrow.Author.Tests.{leb-true, le-leb, eqb-true, eq-eqb}
 use Rattle.outcome.specs.declared.Refusal.the-variants.{WrongLength, OutsideLimits}
 use Rattle.outcome.specs.declared.Status.{Status}
 use Rattle.outcome.specs.declared.Status.the-variants.{Accepted, Refused}
-use Rattle.outcome.specs.Laws.{check-accepted, check-then, first-accepted, first-check}
+use Rattle.outcome.specs.Laws.{check-accepted, check-then, first-accepted}
 use Rattle.bigendian.specs.Number.{bytes}
 use Rattle.bigendian.specs.NumberLaws.{Bytes, bytes-drop}
 use Rattle.buffer.specs.Buffer.{joined}
 use Rattle.buffer.specs.RunLaws.{joined-append, joined-map}
 use Rattle.figures.specs.Figures.{within}
 use Rattle.figures.specs.ItemLaws.{length-items}
-use Rattle.figures.specs.FigureLaws.{and-true}
-use Rattle.fields.specs.Field.{headerSize, field, endTag, endSize, endField, valueOf, fieldStatus}
-use Rattle.fields.specs.FieldLaws.{length-field, field-accepted, field-room, field-is}
+use Rattle.buffer.specs.AllLaws.{and-true}
+use Rattle.fields.specs.Field.{headerSize, afterField, field, endTag, endSize, endField, fieldStatus}
+use Rattle.fields.specs.FieldLaws.{length-field}
 use Rattle.limits.specs.Limits.{mostTanks, mostExponent, mostRounds, trialLimit}
 use Rattle.rows.specs.Block.{Counts}
 use Rattle.casefile.specs.Case.{Case, headFine, HeadSmall, trialCount, counted, rowsFine, figuresFine, caseStatus}
-use Rattle.casefile.specs.Layout.{headTag, headLength, headValue, headField, nAt, exponentAt, roundsAt, rowsAt, rowSize, rowsEnd, longestCase, rowField, rowsIn, trialLength, trialSize, trialFields, trialBytes, encode}
-use Rattle.casefile.specs.Decode.{headTanks, headExponent, headRounds, headStatus, rowsStatus, rowsOf, trialStatus, endStatus, tailStatus, afterHead, afterRows, inputStatus, caseOf, accepted, decoded, decode}
+use Rattle.casefile.specs.Layout.{headTag, headLength, headValue, headField, rowsAt, rowSize, rowsEnd, longestCase, rowField, rowsIn, trialLength, trialSize, trialFields, trialBytes, encode}
+use Rattle.casefile.specs.Decode.{headDue, headTanks, headExponent, headRounds, headStatus, rowsStatus, rowsOf, trialStatus, endStatus, tailStatus, afterHead, afterRows, inputStatus, caseOf, accepted, decoded, decode}
+use Rattle.casefile.specs.DueLaws.{due-back, due-field, due-fine, due-same}
 use Rattle.casefile.specs.BlockLaws.{Sound, SoundBlock, sound, sound-fine, Rows, split-sound, length-split, together-split, split-together, together-sound}
 use Rattle.casefile.specs.RowsLaws.{length-row-fields, rows-back, rows-accepted, rows-sound, rows-same, rows-fit}
 use Rattle.casefile.specs.TailLaws.{brought-most, length-trial, trial-back, trial-sound, trial-same, end-back, end-same}
@@ -57,9 +58,7 @@ module _ (s : List ℕ) (e : headStatus s ≡ Accepted) where
 
   pub head-parts : HeadParts
   unfolding headStatus
-  head-parts =
-      let w = first-check (fieldStatus headTag headLength s) _ OutsideLimits e in
-      record { field-fine = w .0; limits = head-small _ _ _ (w .1) }
+  head-parts = record { field-fine = due-field headDue s e; limits = head-small _ _ _ (due-fine headDue s e) }
 
 -- ---- what a case that is not refused has
 
@@ -117,8 +116,8 @@ encode-is c =
 -- ---- encoded and decoded
 
 head-back : (n x k : ℕ) (rest : List ℕ) → HeadSmall n x k → headStatus (headField n x k ++ rest) ≡ Accepted
-unfolding headStatus field bytes
-head-back n x k rest h = rw (field-accepted headTag (headValue n x k) rest headLength refl (omega arith), small-head n x k h)
+unfolding headStatus
+head-back n x k rest h = due-back headDue (record { n = n; exponent = x; rounds = k }) rest refl (omega arith) (small-head n x k h) refl .accepted
 
 -- what follows the rows
 pub after-rows : (n : ℕ) (s : List ℕ) → drop (rowsEnd n) s ≡ drop (n * rowSize n) (drop rowsAt s)
@@ -134,7 +133,7 @@ decode-encode c e =
     let rows = split-sound (c .n) (c .n) (c .rows) (g .rows) in
     let m = length-split (c .n) (c .n) (c .rows) in
     let accepted-rows = rw m at (rows-accepted (c .n) (g .limits .small) rows T) in
-    let read-rows = rw m at (rows-back (c .n) rows T) in
+    let read-rows = rw m at (rows-back (c .n) rows (g .limits .small) T) in
     let tail : drop (rowsEnd (c .n)) (H ++ (R ++ T)) ≡ T =
     after-rows (c .n) (H ++ (R ++ T)) ∙ drop-at R T (c .n * rowSize (c .n)) (rw m at (length-row-fields (c .n) rows)) in
     let t = trial-back (c .rounds) (c .n) (c .trial) endField (g .limits .small) (g .trial) in
@@ -196,10 +195,15 @@ module _ (s : List ℕ) (e : inputStatus s ≡ Accepted) where
   unfolding caseOf
   case-good = record { limits = head-is .limits; rows = rw rows-count at (together-sound N rows-are); trial = trial-sound K N (afterRows s) (parts .trial) }
 
-  head-value : take headLength (valueOf s) ≡ headValue N (headExponent s) K
-  head-value =
-      let h : rowsAt ≤ length s = field-room headTag headLength s (head-is .field-fine) in
-      rw (drop-cons s nAt 0 (omega arith), drop-cons s exponentAt 0 (omega arith), drop-cons s roundsAt 0 (omega arith))
+  head-same : Bytes s → headField N (headExponent s) K ++ afterField headLength s ≡ s
+  unfolding headStatus
+  head-same bs = due-same headDue s (parts .head) bs same
+    where
+      same : (v : List ℕ) → Bytes v → headLength ≤ length v → (headLength ≡ headLength) × (headDue .write (headDue .read v) ++ drop headLength v ≡ v)
+      same [] b h = absurd (omega arith)
+      same (x ∷ []) b h = absurd (omega arith)
+      same (x ∷ y ∷ []) b h = absurd (omega arith)
+      same (x ∷ y ∷ z ∷ v) b h = (refl, refl)
 
   case-bytes : Bytes s → encode (caseOf s) ≡ s
   unfolding caseOf
@@ -212,9 +216,8 @@ module _ (s : List ℕ) (e : inputStatus s ≡ Accepted) where
         trial-same K N (afterRows s) (parts .trial) b,
         after-rows N s,
         rows-same N N (afterHead s) (parts .rows) (bytes-drop rowsAt bs),
-        ← head-value,
       )
-      (field-is headTag headLength s (head-is .field-fine) bs)
+      (head-same bs)
 
 pub decode-fine : (s : List ℕ) (c : Case) → decode s ≡ accepted c → caseStatus c ≡ Accepted
 decode-fine s c e = let w = decodes s c e in subst (λ (d : Case). caseStatus d ≡ Accepted) (w .1) (accepts (caseOf s) (case-good s (w .0)))

@@ -11,33 +11,57 @@ use Rattle.outcome.specs.declared.Refusal.the-variants.{OutsideLimits, Trailing
 use Rattle.outcome.specs.declared.Status.{Status}
 use Rattle.outcome.specs.declared.Status.the-variants.{Accepted, Refused}
 use Rattle.outcome.specs.Outcome.{check, first}
-use Rattle.buffer.specs.Buffer.{onto}
-use Rattle.figures.specs.Figures.{i16, u16, i32, u32, within, items, figures, after, all}
+use Rattle.buffer.specs.Buffer.{onto, all}
+use Rattle.figures.specs.Figures.{i16, u16, i32, u32, within, items, figures, after, spread}
 use Rattle.fields.specs.Field.{endTag, endLength, endSize, valueOf, afterField, fieldStatus}
 use Rattle.limits.specs.Limits.{mostTanks, mostCoefficients, trialLimit}
 use Rattle.rows.specs.Block.{Block, block, over, together}
 use Rattle.casefile.specs.Case.{Case, caseWith, given, headFine, whereBrought, rowsFine}
-use Rattle.casefile.specs.Layout.{headTag, headLength, nAt, exponentAt, roundsAt, rowsAt, rowTag, rowLength, rowSize, rowsEnd, trialTag, trialKind, trialLength, trialSize}
+use Rattle.casefile.specs.Layout.{headTag, headLength, headValue, rowsAt, rowTag, rowLength, rowSize, rowsEnd, rowBytes, trialTag, trialKind, trialLength, trialSize}
 use Rattle.casefile.specs.declared.Case.{Case as Stored}
 use Rattle.casefile.specs.declared.Reading.{Reading}
 
+-- a field that is due: its tag and length, what its value is read as, whether that is within its limits, and its value's bytes
+pub record Due (A : Type 0) : Type 0 where
+  pub tag : ℕ
+  pub len : ℕ
+  pub read : List ℕ → A
+  pub fine : A → Bool
+  pub write : A → List ℕ
+
 -- "at each field 2 to 6 in turn": the field due at the front of s, and then whether its figures are within their limits
-abbrev pub dueStatus : ℕ → ℕ → List ℕ → Bool → Status
-dueStatus tag len s fine = first (fieldStatus tag len s) (check fine OutsideLimits)
+abbrev pub dueStatus : {A : Type 0} → Due A → List ℕ → Status
+dueStatus d s = first (fieldStatus (d .tag) (d .len) s) (check (d .fine (d .read (valueOf s))) OutsideLimits)
 
 -- ---- the head: n, e, K
 
+pub record HeadFigures : Type 0 where
+  pub n : ℕ
+  pub exponent : ℕ
+  pub rounds : ℕ
+
+abbrev pub headDue : Due HeadFigures
+headDue =
+    record {
+      tag = headTag;
+      len = headLength;
+      read = λ v. record { n = getD v 0 0; exponent = getD v 1 0; rounds = getD v 2 0 };
+      fine = λ h. headFine (h .n) (h .exponent) (h .rounds);
+      write = λ h. headValue (h .n) (h .exponent) (h .rounds);
+    }
+
+-- of the head whose field stands at the front of s
 abbrev pub headTanks : List ℕ → ℕ
-headTanks s = getD s nAt 0
+headTanks s = headDue .read (valueOf s) .n
 
 abbrev pub headExponent : List ℕ → ℕ
-headExponent s = getD s exponentAt 0
+headExponent s = headDue .read (valueOf s) .exponent
 
 abbrev pub headRounds : List ℕ → ℕ
-headRounds s = getD s roundsAt 0
+headRounds s = headDue .read (valueOf s) .rounds
 
 unfoldable pub headStatus : List ℕ → Status
-headStatus s = dueStatus headTag headLength s (headFine (headTanks s) (headExponent s) (headRounds s))
+headStatus s = dueStatus headDue s
 
 -- ---- rows
 
@@ -54,8 +78,11 @@ rowOf n v =
 abbrev pub rowAt : ℕ → List ℕ → Block
 rowAt n s = rowOf n (valueOf s)
 
+abbrev pub rowDue : ℕ → Due Block
+rowDue n = record { tag = rowTag; len = rowLength n; read = rowOf n; fine = rowsFine; write = rowBytes }
+
 unfoldable pub rowStatus : ℕ → List ℕ → Status
-rowStatus n s = dueStatus rowTag (rowLength n) s (rowsFine (rowAt n s))
+rowStatus n s = dueStatus (rowDue n) s
 
 -- m rows, one field after another: the first refusal, and the rows
 unfoldable pub rowsStatus : ℕ → ℕ → List ℕ → Status
@@ -71,8 +98,11 @@ rowsOf n m s = items (rowSize n) (rowAt n) m s
 abbrev pub trialAt : ℕ → List ℕ → List ℤ
 trialAt n s = figures trialKind n (valueOf s)
 
+abbrev pub trialDue : ℕ → Due (List ℤ)
+trialDue n = record { tag = trialTag; len = trialLength n; read = figures trialKind n; fine = all (within trialLimit); write = spread trialKind }
+
 unfoldable pub trialStatus : ℕ → ℕ → List ℕ → Status
-trialStatus k n s = whereBrought k (dueStatus trialTag (trialLength n) s (all (within trialLimit) (trialAt n s))) Accepted
+trialStatus k n s = whereBrought k (dueStatus (trialDue n) s) Accepted
 
 unfoldable pub trialOf : ℕ → ℕ → List ℕ → List ℤ
 trialOf k n s = whereBrought k (trialAt n s) []

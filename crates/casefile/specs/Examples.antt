@@ -7,7 +7,8 @@ use lib.ListN.{length, take, drop}
 use lib.IntN.{pos, negsuc}
 use Rattle.outcome.specs.declared.Refusal.the-variants.{FieldMissing, WrongTag, WrongLength, ValueCutShort, OutsideLimits, TrailingBytes}
 use Rattle.bigendian.specs.Number.{be, bytes}
-use Rattle.figures.specs.Figures.{i16, items, spread, all}
+use Rattle.buffer.specs.Buffer.{all}
+use Rattle.figures.specs.Figures.{i16, items, spread}
 use Rattle.fields.specs.Field.{headerSize, field, fieldStatus}
 use Rattle.rows.specs.Block.{split}
 use Rattle.casefile.specs.Case.{Case, given, rowsFine}

@@ -4,6 +4,7 @@ pub mod Decode
 pub mod Write
 pub mod KindLaws
 pub mod AnswerLaws
+pub mod DueLaws
 pub mod BlockLaws
 pub mod RowLaws
 pub mod RowsLaws

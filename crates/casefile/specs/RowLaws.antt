@@ -2,25 +2,22 @@
 -- Assumes nothing.
 use mathlib.Core.Path.{_≡_, refl, sym, ap, _∙_}
 use mathlib.Core.List.{List, _++_, append-assoc}
-use mathlib.Core.Bool.{true}
 use Prim.Native.Nat.{ℕ, _+_, _*_, _≤_}
 use native.Mathlib.Omega.{arith}
 use lib.ListN.{length, drop, length-append, length-drop}
 use lib.Seq.{drop-drop}
-use Rattle.outcome.specs.declared.Refusal.the-variants.{OutsideLimits}
 use Rattle.outcome.specs.declared.Status.the-variants.{Accepted}
-use Rattle.outcome.specs.Laws.{first-check}
 use Rattle.bigendian.specs.NumberLaws.{Bytes, bytes-drop}
 use Rattle.figures.specs.Figures.{i16, u16, i32, u32, after, spread}
 use Rattle.figures.specs.ItemLaws.{length-items}
 use Rattle.figures.specs.FigureLaws.{length-spread, after-spread, figures-spread, spread-figures}
-use Rattle.fields.specs.Field.{headerSize, valueOf, afterField, fieldStatus}
-use Rattle.fields.specs.FieldLaws.{length-field, field-value, field-after, field-accepted, value-room, field-same, field-room-at}
+use Rattle.fields.specs.Field.{valueOf, afterField}
+use Rattle.fields.specs.FieldLaws.{length-field, field-room-at}
 use Rattle.limits.specs.Limits.{mostTanks}
 use Rattle.rows.specs.Block.{Block, Counts}
-use Rattle.casefile.specs.Case.{rowsFine}
 use Rattle.casefile.specs.Layout.{rowTag, rowLength, rowSize, rightSideAt, rightToleranceAt, rowBytes, rowField}
-use Rattle.casefile.specs.Decode.{rowOf, rowAt, rowStatus}
+use Rattle.casefile.specs.Decode.{rowOf, rowAt, rowDue, rowStatus}
+use Rattle.casefile.specs.DueLaws.{DueBack, due-back, due-field, due-fine, due-same}
 use Rattle.casefile.specs.KindLaws.{coefficient-lawful, tolerance-lawful, right-side-lawful, right-tolerance-lawful}
 use Rattle.casefile.specs.BlockLaws.{SoundBlock, counts, sound, sound-fine}
 
@@ -42,12 +39,9 @@ module _ {n : ℕ} {r : Block} (c : Counts n 1 r) where
   length-row-field = length-field rowTag (rowBytes r) ∙ rw length-row
 
 module _ {n : ℕ} {r : Block} (s : SoundBlock n 1 r) (rest : List ℕ) where
-  sound-length : length (rowBytes r) ≡ rowLength n
-  sound-length = length-row (counts s)
-
-  pub row-back : rowOf n (rowBytes r ++ rest) ≡ r
+  value-back : rowOf n (rowBytes r ++ rest) ≡ r
   unfolding rowBytes rowOf
-  row-back =
+  value-back =
       let F : List ℕ = spread u32 (r .right-tolerances) ++ rest in
       let B : List ℕ = spread i32 (r .right-sides) ++ F in
       let T : List ℕ = spread u16 (r .tolerances) ++ B in
@@ -63,28 +57,19 @@ module _ {n : ℕ} {r : Block} (s : SoundBlock n 1 r) (rest : List ℕ) where
       ))
 
   -- a row's field that was written
-  pub row-read : rowAt n (rowField r ++ rest) ≡ r
-  row-read = rw (field-value rowTag (rowBytes r) rest) row-back
-
-  pub row-accepted : n ≤ mostTanks → rowStatus n (rowField r ++ rest) ≡ Accepted
-  unfolding rowStatus
-  row-accepted small = rw (field-accepted rowTag (rowBytes r) rest (rowLength n) sound-length (omega arith), row-read, sound-fine s)
-
-  pub row-after : afterField (rowLength n) (rowField r ++ rest) ≡ rest
-  row-after = field-after rowTag (rowBytes r) rest (rowLength n) sound-length
+  pub row-back : n ≤ mostTanks → DueBack (rowDue n) r rest
+  row-back small = due-back (rowDue n) r rest (length-row (counts s)) (omega arith) (sound-fine s) value-back
 
 -- ---- a row's field that is not refused
 
-module _ (n : ℕ) (s : List ℕ) (accepted : rowStatus n s ≡ Accepted) where
-  two : (fieldStatus rowTag (rowLength n) s ≡ Accepted) × (rowsFine (rowAt n s) ≡ true)
-  unfolding rowStatus
-  two = first-check (fieldStatus rowTag (rowLength n) s) (rowsFine (rowAt n s)) OutsideLimits accepted
+row-counts : (n : ℕ) (v : List ℕ) → Counts n 1 (rowOf n v)
+unfolding rowOf
+row-counts n v = record { la = length-items _ _ n _; lt = length-items _ _ n _; lb = length-items _ _ 1 _; lf = length-items _ _ 1 _ }
 
+module _ (n : ℕ) (s : List ℕ) (accepted : rowStatus n s ≡ Accepted) where
   pub row-sound : SoundBlock n 1 (rowAt n s)
-  row-sound = sound row-counts (two .1)
-    where
-      row-counts : Counts n 1 (rowAt n s)
-      row-counts = unfold rowOf in record { la = length-items _ _ n _; lt = length-items _ _ n _; lb = length-items _ _ 1 _; lf = length-items _ _ 1 _ }
+  unfolding rowStatus
+  row-sound = sound (row-counts n (valueOf s)) (due-fine (rowDue n) s accepted)
 
   -- the value, figure by figure
   same : (v : List ℕ) → Bytes v → rowLength n ≤ length v → rowBytes (rowOf n v) ++ drop (rowLength n) v ≡ v
@@ -112,10 +97,10 @@ module _ (n : ℕ) (s : List ℕ) (accepted : rowStatus n s ≡ Accepted) where
       (spread-figures i16 _ coefficient-lawful n v bv (omega arith)))
 
   pub row-same : Bytes s → rowField (rowAt n s) ++ afterField (rowLength n) s ≡ s
-  row-same bs =
-      field-same rowTag (rowLength n) s (two .0) bs (rowBytes (rowAt n s)) (length-row (counts row-sound))
-      (same (valueOf s) (bytes-drop headerSize bs) (value-room rowTag (rowLength n) s (two .0)))
+  unfolding rowStatus
+  row-same bs = due-same (rowDue n) s accepted bs (λ v b h. (length-row (row-counts n v), same v b h))
 
 -- where it stands in the whole input
 pub row-room : (n : ℕ) (s : List ℕ) (at : ℕ) → rowStatus n (drop at s) ≡ Accepted → at + rowSize n ≤ length s
-row-room n s at e = field-room-at rowTag (rowLength n) s at refl (two n (drop at s) e .0)
+unfolding rowStatus
+row-room n s at e = field-room-at rowTag (rowLength n) s at refl (due-field (rowDue n) (drop at s) e)

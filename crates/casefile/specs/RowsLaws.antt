@@ -18,7 +18,7 @@ use Rattle.rows.specs.Block.{Block}
 use Rattle.casefile.specs.Layout.{rowLength, rowSize, rowField}
 use Rattle.casefile.specs.Decode.{rowAt, rowStatus, rowsStatus, rowsOf}
 use Rattle.casefile.specs.BlockLaws.{counts, Rows, none, one}
-use Rattle.casefile.specs.RowLaws.{length-row-field, row-accepted, row-read, row-after, row-sound, row-same}
+use Rattle.casefile.specs.RowLaws.{length-row-field, row-back, row-sound, row-same}
 
 -- ---- rows that were written, with what follows them
 
@@ -29,18 +29,19 @@ module _ (n : ℕ) {rs : List Block} (g : Rows n rs) where
       next : (r : Block) (rs : List Block) → Rows n (r ∷ rs) → (length (rowField r) ≡ rowSize n) × Rows n rs
       next r rs (one s g) = (length-row-field (counts s), g)
 
-  pub rows-back : (rest : List ℕ) → rowsOf n (length rs) (joined rowField rs ++ rest) ≡ rs
-  rows-back rest = items-back (rowSize n) (rowAt n) rowField (Rows n) (λ r rs g. next r rs g) rs rest g
+  pub rows-back : n ≤ mostTanks → (rest : List ℕ) → rowsOf n (length rs) (joined rowField rs ++ rest) ≡ rs
+  rows-back small rest = items-back (rowSize n) (rowAt n) rowField (Rows n) (λ r rs g. next r rs g) rs rest g
     where
       next : (r : Block) (rs : List Block) → Rows n (r ∷ rs) → Back (rowSize n) (rowAt n) rowField r × Rows n rs
-      next r rs (one s g) = (record { size = length-row-field (counts s); read = row-read s }, g)
+      next r rs (one s g) = (record { size = length-row-field (counts s); read = λ rest. row-back s rest small .read }, g)
 
 pub rows-accepted : (n : ℕ) → n ≤ mostTanks → {rs : List Block} → Rows n rs → (rest : List ℕ) → rowsStatus n (length rs) (joined rowField rs ++ rest) ≡ Accepted
-unfolding rowsStatus
+unfolding rowsStatus rowStatus
 rows-accepted n small none rest = refl
 rows-accepted n small (one {r = r} {rs = rs} s g) rest =
     let t : List ℕ = joined rowField rs ++ rest in
-    rw (append-assoc (rowField r) (joined rowField rs) rest, row-accepted s t small, row-after s t) (rows-accepted n small g rest)
+    let b = row-back s t small in
+    rw (append-assoc (rowField r) (joined rowField rs) rest, b .accepted, b .after) (rows-accepted n small g rest)
 
 -- ---- rows that were read
 

@@ -9,7 +9,7 @@ use lib.Seq.{getD-drop}
 use borrow.Author.Tests.{leb-true, le-leb}
 use Rattle.integers.specs.Tables.{same-at}
 use Rattle.figures.specs.Figures.{upTo}
-use Rattle.figures.specs.FigureLaws.{all-at}
+use Rattle.buffer.specs.AllLaws.{all-at}
 use Rattle.outcome.specs.declared.Refusal.{Refusal}
 use Rattle.outcome.specs.declared.Status.the-variants.{Accepted, Refused}
 use Rattle.outcome.specs.Laws.{not-both}

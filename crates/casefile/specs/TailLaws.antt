@@ -8,20 +8,22 @@ use native.Mathlib.Nat.{le-of-eq}
 use lib.ListN.{length, drop, drop-of-length-le}
 use lib.IntN.{ℤ}
 use borrow.Author.Tests.{eqb-true}
-use Rattle.outcome.specs.declared.Refusal.the-variants.{OutsideLimits, TrailingBytes}
+use Rattle.outcome.specs.declared.Refusal.the-variants.{TrailingBytes}
 use Rattle.outcome.specs.declared.Status.the-variants.{Accepted}
-use Rattle.outcome.specs.Laws.{first-accepted, first-check}
+use Rattle.outcome.specs.Laws.{first-check}
 use Rattle.bigendian.specs.Number.{be, bytes}
-use Rattle.bigendian.specs.NumberLaws.{Bytes, bytes-drop}
-use Rattle.figures.specs.Figures.{within, spread, all}
+use Rattle.bigendian.specs.NumberLaws.{Bytes}
+use Rattle.buffer.specs.Buffer.{all}
+use Rattle.figures.specs.Figures.{within, figures, spread}
 use Rattle.figures.specs.ItemLaws.{length-items}
 use Rattle.figures.specs.FigureLaws.{length-spread, figures-spread, spread-figures}
-use Rattle.fields.specs.Field.{headerSize, field, endTag, endLength, endSize, endField, valueOf, fieldStatus}
-use Rattle.fields.specs.FieldLaws.{length-field, field-value, field-after, field-accepted, value-room, field-is, field-same, field-room-at}
+use Rattle.fields.specs.Field.{field, endTag, endLength, endSize, endField, valueOf, fieldStatus}
+use Rattle.fields.specs.FieldLaws.{length-field, field-is, field-room-at}
 use Rattle.limits.specs.Limits.{mostTanks, trialLimit}
 use Rattle.casefile.specs.Case.{whereBrought, trialCount}
 use Rattle.casefile.specs.Layout.{trialTag, trialKind, trialLength, trialSize, trialField, trialBytes}
-use Rattle.casefile.specs.Decode.{trialAt, trialStatus, trialOf, endStatus}
+use Rattle.casefile.specs.Decode.{trialDue, trialStatus, trialOf, endStatus}
+use Rattle.casefile.specs.DueLaws.{due-back, due-field, due-fine, due-same}
 use Rattle.casefile.specs.KindLaws.{trial-lawful}
 use Rattle.casefile.specs.BlockLaws.{Sound}
 
@@ -50,14 +52,9 @@ pub trial-back : (k n : ℕ) (y : List ℤ) (rest : List ℕ) → n ≤ mostTank
 unfolding trialStatus trialOf
 trial-back zero n y rest small h =
     let l : length (spread trialKind y) ≡ trialLength n = length-spread trialKind y ∙ rw (h .count) in
-    let value : trialAt n (trialField y ++ rest) ≡ y =
-    rw (field-value trialTag (spread trialKind y) rest) (figures-spread trialKind _ trial-lawful n y rest (h .count) (h .fine)) in
+    let b = due-back (trialDue n) y rest l (omega arith) (h .fine) (figures-spread trialKind _ trial-lawful n y rest (h .count) (h .fine)) in
     let q = append-nil (trialField y) in
-    record {
-      accepted = rw (q, field-accepted trialTag (spread trialKind y) rest (trialLength n) l (omega arith), value, h .fine);
-      read = rw q value;
-      after = rw q (field-after trialTag (spread trialKind y) rest (trialLength n) l);
-    }
+    record { accepted = rw q (b .accepted); read = rw q (b .read); after = rw q (b .after) }
 trial-back (suc k) n [] rest small h = record { accepted = refl; read = refl; after = refl }
 trial-back (suc k) n (y ∷ ys) rest small h = absurd (omega (arith, h .count))
 
@@ -66,25 +63,22 @@ trial-back (suc k) n (y ∷ ys) rest small h = absurd (omega (arith, h .count))
 pub trial-sound : (k n : ℕ) (s : List ℕ) → trialStatus k n s ≡ Accepted → Sound (within trialLimit) (trialCount k n) (trialOf k n s)
 unfolding trialStatus trialOf all
 trial-sound zero n s e =
-    record { count = length-items _ _ n (valueOf s); fine = first-check (fieldStatus trialTag (trialLength n) s) _ OutsideLimits e .1 }
+    record { count = length-items _ _ n (valueOf s); fine = due-fine (trialDue n) s e }
 trial-sound (suc k) n s e = record { count = refl; fine = refl }
 
 pub trial-same : (k n : ℕ) (s : List ℕ) → trialStatus k n s ≡ Accepted → Bytes s → trialBytes k (trialOf k n s) ++ drop (trialSize k n) s ≡ s
 unfolding trialStatus trialOf
 trial-same zero n s e bs =
-    let w = first-accepted (fieldStatus trialTag (trialLength n) s) _ e in
-    let y : List ℤ = trialAt n s in
-    let l : length (spread trialKind y) ≡ trialLength n = length-spread trialKind y ∙ rw (length-items _ _ n (valueOf s)) in
     rw append-nil
-    (field-same trialTag (trialLength n) s (w .0) bs (spread trialKind y) l
-    (spread-figures trialKind _ trial-lawful n (valueOf s) (bytes-drop headerSize bs) (value-room trialTag (trialLength n) s (w .0))))
+    (due-same (trialDue n) s e bs
+    (λ v b h. (length-spread trialKind (figures trialKind n v) ∙ rw (length-items _ _ n v), spread-figures trialKind _ trial-lawful n v b h)))
 trial-same (suc k) n s e bs = refl
 
 -- what follows it stands at a place that a number below b has, where the trial's place and the input's length are
 pub trial-place : (k n : ℕ) (s : List ℕ) (at b : ℕ) → at < b → length s < b → trialStatus k n (drop at s) ≡ Accepted → at + trialSize k n < b
 unfolding trialStatus
 trial-place zero n s at b h l e =
-    omega (arith, field-room-at trialTag (trialLength n) s at refl (first-accepted (fieldStatus trialTag (trialLength n) (drop at s)) _ e .0))
+    omega (arith, field-room-at trialTag (trialLength n) s at refl (due-field (trialDue n) (drop at s) e))
 trial-place (suc k) n s at b h l e = omega arith
 
 -- ---- the end

@@ -3,6 +3,7 @@
 use mathlib.Core.Path.{_≡_, refl, sym, ap}
 use mathlib.Core.List.{List}
 use Prim.Native.Nat.{ℕ, _≤_, _<_}
+use native.Mathlib.Nat.{zero-add}
 use native.Mathlib.Omega.{arith}
 use lib.ListN.{length, take}
 use lib.Dec.{leb}
@@ -14,7 +15,7 @@ use Rattle.outcome.specs.declared.Status.{Status}
 use Rattle.outcome.specs.declared.Status.the-variants.{Accepted, Refused}
 use Rattle.outcome.specs.Outcome.{said}
 use Rattle.outcome.specs.Laws.{no-count, same-refusal, check-then}
-use Rattle.buffer.specs.Buffer.{onto}
+use Rattle.buffer.specs.Buffer.{onto, Wrote}
 use Rattle.bigendian.specs.NumberLaws.{Bytes}
 use Rattle.buffer.specs.Laws.{length-onto, take-onto}
 use Rattle.casefile.specs.Case.{Case, caseStatus}
@@ -57,9 +58,9 @@ module _ (asked : ℕ) (next : Status) where
     pub filed-refused : (r : Refusal) → asked ≤ length out → next ≡ Refused r → leaves (RefusedBy r) out ≡ filed (inRoom asked (length out) next) bytes out
     filed-refused r h e = rw (le-leb asked (length out) h, e)
 
-    pub filed-whole : (m : ℕ) (exit : List ℕ) → asked ≤ length out → next ≡ Accepted → m ≡ length bytes → exit ≡ onto bytes out
+    pub filed-whole : {m : ℕ} {exit : List ℕ} → asked ≤ length out → next ≡ Accepted → Wrote bytes 0 out m exit
         → leaves (Count m) exit ≡ filed (inRoom asked (length out) next) bytes out
-    filed-whole m exit h e k x = rw (le-leb asked (length out) h, e, k, x)
+    filed-whole h e w = rw (le-leb asked (length out) h, e, w .place, w .bytes, zero-add (length bytes))
 
 -- ---- written, then read
 

@@ -1,9 +1,16 @@
--- Decimal numbers as bytes, for numbers of any size. Definitions only. Assumes nothing.
+-- Text and decimal numbers as bytes, for numbers of any size. Definitions only. Assumes nothing.
 use mathlib.Core.Bool.{true, false}
 use mathlib.Core.List.{List, [], _∷_, _++_}
 use Prim.Native.Nat.{ℕ, zero, suc, _+_, _/_, _%_, _^_}
+use Prim.Native.Char.{code}
+use Prim.Native.String as string
 use lib.Dec.{ltb}
 use lib.IntN.{ℤ, pos, negsuc, natAbs}
+
+-- the bytes of a text of ASCII characters
+abbrev pub ascii : string.String → List ℕ
+ascii string.[] = []
+ascii (string._∷_ c s) = code c ∷ ascii s
 
 -- the byte of a digit
 abbrev pub digit : ℕ → ℕ

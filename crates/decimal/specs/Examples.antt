@@ -3,8 +3,7 @@ use mathlib.Core.Path.{_≡_, refl}
 use mathlib.Core.List.{[], _∷_}
 use Prim.Native.Nat.{_^_}
 use lib.IntN.{pos, negsuc, negℤ}
-use Rattle.decimal.specs.Buffer.{ascii}
-use Rattle.decimal.specs.Decimal.{digits-within, digits, last-digits, signed, fixed-point}
+use Rattle.decimal.specs.Decimal.{digits-within, digits, last-digits, signed, fixed-point, ascii}
 use Rattle.decimal.specs.Reading.{scaled-value, read-fixed-point}
 
 -- answers: document 01's −4 with e = 1 keeps its minus, though its whole tonnes are 0

@@ -1,5 +1,3 @@
-pub mod Buffer
-pub mod BufferLaws
 pub mod Decimal
 pub mod DigitLaws
 pub mod Reading

@@ -6,7 +6,7 @@ ghost use mathlib.Core.Path.{_≡_};
 ghost use Prim.Native.Nat.{_≤_};
 ghost use lib.ListN.{length};
 ghost use Rattle.limits.specs.Limits.{mostExponent};
-ghost use Rattle.decimal.specs.Buffer.{Room, Wrote};
+ghost use Rattle.buffer.specs.Buffer.{Room, Wrote};
 ghost use Rattle.decimal.specs.Decimal.{digits, «last-digits», minus, signed, fraction, «fixed-point»};
 
 // Copies the bytes of a word.

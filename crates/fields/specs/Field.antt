@@ -1,5 +1,6 @@
 -- A field of a file, and what refuses a field that is due at the front of the bytes that are left.
 use Prim.Native.Nat.{ℕ, _+_, _-_}
+use mathlib.Core.Bool.{Bool}
 use mathlib.Core.List.{List, [], _∷_, _++_}
 use lib.ListN.{length, getD, take, drop}
 use lib.Dec.{leb, eqb}
@@ -51,11 +52,12 @@ valueOf s = drop headerSize s
 abbrev pub afterField : ℕ → List ℕ → List ℕ
 afterField len s = drop (headerSize + len) s
 
--- document 01, refusals 2 to 5 in turn: "Fewer than three bytes are left where a field must start", "The tag is not the one due at this place",
--- "The length is not the one due for this tag and n", "The value is cut short by the end of the input"
+-- document 01, refusals 2 to 5 in turn, by their tests: "Fewer than three bytes are left where a field must start", "The tag is not the one due at this
+-- place", "The length is not the one due for this tag and n", "The value is cut short by the end of the input"
+abbrev pub inTurn : Bool → Bool → Bool → Bool → Status
+inTurn started tagged measured whole =
+    first (check started FieldMissing) (first (check tagged WrongTag) (first (check measured WrongLength) (check whole ValueCutShort)))
+
 unfoldable pub fieldStatus : ℕ → ℕ → List ℕ → Status
 fieldStatus tag len s =
-    first (check (leb headerSize (length s)) FieldMissing)
-    (first (check (eqb (tagOf s) tag) WrongTag)
-    (first (check (eqb (lengthOf s) len) WrongLength)
-    (check (leb len (length s - headerSize)) ValueCutShort)))
+    inTurn (leb headerSize (length s)) (eqb (tagOf s) tag) (eqb (lengthOf s) len) (leb len (length s - headerSize))

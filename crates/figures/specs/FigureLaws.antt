@@ -1,12 +1,12 @@
--- The laws of figures as bytes and of runs of them, once for every kind: read back what was written, write back what was read; and of tests over lists.
+-- The laws of figures as bytes and of runs of them, once for every kind: read back what was written, write back what was read.
 -- Assumes nothing.
 use mathlib.Core.Path.{_≡_, refl, ap, _∙_}
-use mathlib.Core.List.{List, [], _∷_, _++_}
-use mathlib.Core.Bool.{Bool, true, false, false≢true, _&&_}
-use Prim.Native.Nat.{ℕ, zero, suc, _*_, _^_, _≤_, _<_}
+use mathlib.Core.List.{List, _∷_, _++_}
+use mathlib.Core.Bool.{Bool, true}
+use Prim.Native.Nat.{ℕ, suc, _*_, _^_, _≤_, _<_}
 use native.Mathlib.Omega.{arith}
 use native.Mathlib.Nat.{mul-suc, mul-comm}
-use lib.ListN.{length, getD, take, drop, length-drop, take-append-drop}
+use lib.ListN.{length, take, drop, length-drop, take-append-drop}
 use lib.Seq.{take-at, drop-at}
 use mir.Syntax.{Width}
 use mir.Val.{hbits}
@@ -16,39 +16,10 @@ use borrow.Author.Tests.{leb-true}
 use Rattle.integers.specs.Size.{sfits-leb}
 use Rattle.bigendian.specs.Number.{be, size}
 use Rattle.bigendian.specs.NumberLaws.{Bytes, bytes-drop, bytes-of, be-of, be-bytes, length-bytes}
-use Rattle.figures.specs.Figures.{Kind, unsigned, signed, upTo, within, figureAt, figures, after, figureBytes, spread, all}
+use Rattle.buffer.specs.Buffer.{all}
+use Rattle.buffer.specs.AllLaws.{and-true}
+use Rattle.figures.specs.Figures.{Kind, unsigned, signed, upTo, within, figureAt, figures, after, figureBytes, spread}
 use Rattle.figures.specs.ItemLaws.{length-joined, Back, items-back, items-same}
-
--- ---- tests over lists
-
-pub and-true : (a b : Bool) → (a && b) ≡ true → (a ≡ true) × (b ≡ true)
-and-true true b e = (refl, e)
-and-true false b e = absurd (false≢true e)
-
-module _ {X : Type 0} (p : X → Bool) where
-  pub all-append : (a b : List X) → all p a ≡ true → all p b ≡ true → all p (a ++ b) ≡ true
-  unfolding all
-  all-append [] b e g = g
-  all-append (x ∷ a) b e g = let w = and-true (p x) (all p a) e in rw (w .0, all-append a b (w .1) g)
-
-  pub all-take : (n : ℕ) (l : List X) → all p l ≡ true → all p (take n l) ≡ true
-  unfolding all
-  all-take zero l e = refl
-  all-take (suc n) [] e = refl
-  all-take (suc n) (x ∷ l) e = let w = and-true (p x) (all p l) e in rw (w .0, all-take n l (w .1))
-
-  pub all-drop : (n : ℕ) (l : List X) → all p l ≡ true → all p (drop n l) ≡ true
-  unfolding all
-  all-drop zero l e = e
-  all-drop (suc n) [] e = refl
-  all-drop (suc n) (x ∷ l) e = all-drop n l (and-true (p x) (all p l) e .1)
-
-  -- at every place, past the end too
-  pub all-at : (d : X) → p d ≡ true → (l : List X) → all p l ≡ true → (i : ℕ) → p (getD l i d) ≡ true
-  unfolding all
-  all-at d e [] h i = e
-  all-at d e (x ∷ l) h zero = and-true (p x) (all p l) h .0
-  all-at d e (x ∷ l) h (suc i) = all-at d e l (and-true (p x) (all p l) h .1) i
 
 -- ---- a kind holds the figures that pass a test
 

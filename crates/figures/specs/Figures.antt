@@ -1,6 +1,6 @@
 -- Kinds of figures, and runs of figures of one kind as bytes.
 use Prim.Native.Nat.{ℕ, zero, suc, _*_}
-use mathlib.Core.Bool.{Bool, true, _&&_}
+use mathlib.Core.Bool.{Bool, true}
 use mathlib.Core.List.{List, [], _∷_}
 use mathlib.Core.Path.{_≡_}
 use lib.ListN.{length, take, drop}
@@ -9,7 +9,7 @@ use lib.Dec.{leb}
 use mir.Syntax.{Width, w16, w32, w64}
 use mir.Val.{toZ, ofZ}
 use Rattle.bigendian.specs.Number.{be, bytes, size}
-use Rattle.buffer.specs.Buffer.{joined}
+use Rattle.buffer.specs.Buffer.{joined, all}
 
 -- how many bytes a figure has, the figure of a number so written, and the number of a figure
 pub record Kind (X : Type 0) : Type 0 where
@@ -73,10 +73,6 @@ module _ {X : Type 0} where
 
   unfoldable pub spread : Kind X → List X → List ℕ
   spread k xs = joined (figureBytes k) xs
-
-  unfoldable pub all : (X → Bool) → List X → Bool
-  all p [] = true
-  all p (x ∷ xs) = p x && all p xs
 
 -- an answer that is due and, where it is yes, what was made
 pub record Answered {S A : Type 0} (yes due : S) (value : A) (r : S) (out : A) : Type 0 where

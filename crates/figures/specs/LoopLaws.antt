@@ -16,9 +16,9 @@ use lib.IntN.{ℤ}
 use mir.Syntax.{Width, w64}
 use mir.Val.{hbits, toZ, ofZ}
 use Rattle.integers.specs.Signed.{wide-is}
-use Rattle.buffer.specs.Buffer.{onto, run}
+use Rattle.buffer.specs.Buffer.{onto, run, all}
 use Rattle.buffer.specs.RunLaws.{joined-run, Running, run-ended}
-use Rattle.figures.specs.Figures.{Kind, within, items, figureAt, figures, figureBytes, spread, all, Read}
+use Rattle.figures.specs.Figures.{Kind, within, items, figureAt, figures, figureBytes, spread, Read}
 
 pub no : {P : Type 0} → false ≡ true → P
 no e = absurd (false≢true e)
@@ -138,4 +138,4 @@ module _ {X : Type 0} (k : Kind X) (d : X) (l : List X) where
   Writing out₀ out i p = Running (k .width) (λ j. figureBytes k (getD l j d)) (length l) 0 out₀ out i p
 
   pub write-ended : {out₀ out : List ℕ} {i p : ℕ} → Writing out₀ out i p → length l ≤ i → out ≡ onto (spread k l) out₀
-  write-ended r h = run-ended r h .is ∙ rw (← (spread-run (length l) (omega arith)), take-all (length l) l (omega arith))
+  write-ended r h = run-ended r h .wrote .bytes ∙ rw (← (spread-run (length l) (omega arith)), take-all (length l) l (omega arith))

@@ -3,8 +3,8 @@
 ghost use mathlib.Core.Path.{_≡_};
 ghost use Prim.Native.Nat.{_+_, _*_, _≤_};
 ghost use lib.ListN.{length, drop};
-ghost use Rattle.buffer.specs.Buffer.{onto};
-ghost use Rattle.figures.specs.Figures.{i16, u16, i32, u32, upTo, within as fits, spread, all, Read};
+ghost use Rattle.buffer.specs.Buffer.{onto, all};
+ghost use Rattle.figures.specs.Figures.{i16, u16, i32, u32, upTo, within as fits, spread, Read};
 use bigendian::SIZE_16;
 use bigendian::SIZE_32;
 

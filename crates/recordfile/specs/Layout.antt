@@ -1,12 +1,11 @@
 -- The bytes of a record: document 01, "A record is". Definitions only. Assumes nothing.
-use mathlib.Core.Path.{_≡_}
 use mathlib.Core.Bool.{Bool, true, false}
 use mathlib.Core.List.{List, [], _∷_, _++_}
 use Prim.Native.Nat.{ℕ, _+_, _*_, _≤_, _<_}
 use lib.ListN.{getD}
 use lib.IntN.{ℤ, pos}
 use Rattle.limits.specs.Limits.{mostTanks}
-use Rattle.buffer.specs.Buffer.{onto, run}
+use Rattle.buffer.specs.Buffer.{run}
 use Rattle.figures.specs.Figures.{i32, i64, u64, figureBytes}
 use Rattle.fields.specs.Field.{headerSize, field, endField}
 use Rattle.judge.specs.declared.Judgement.{Judgement}
@@ -128,8 +127,3 @@ pub record Holds (n rounds : ℕ) (j : Judgement) (room : ℕ) : Type 0 where
   pub unmet-byte : j .unmet < 256
   pub decides-byte : j .decides < 256
   pub enough : recordLength n ≤ room
-
--- what it returns and leaves
-pub record Written (n rounds : ℕ) (Y : List ℤ) (j : Judgement) (entry : List ℕ) (r : ℕ) (exit : List ℕ) : Type 0 where
-  pub count : r ≡ recordLength n
-  pub buffer : exit ≡ onto (recordOf n rounds Y j) entry

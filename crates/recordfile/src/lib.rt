@@ -3,9 +3,9 @@ ghost use mathlib.Core.Path.{_≡_};
 ghost use Prim.Native.Nat.{_+_, _≤_};
 ghost use lib.ListN.{length};
 ghost use Rattle.limits.specs.Limits.{mostTanks};
-ghost use Rattle.buffer.specs.Buffer.{onto, run};
+ghost use Rattle.buffer.specs.Buffer.{onto, Wrote, run};
 ghost use Rattle.fields.specs.Field.{headerSize};
-ghost use Rattle.recordfile.specs.Layout.{answerLength, rowsLength, factorLength, answerAt, rowsAt, factorAt, endAt, flag as flagOf, pair, pairAt, pairSize, verdictField, answerField, rowsField, factorField, judgedFields, Holds, Written};
+ghost use Rattle.recordfile.specs.Layout.{answerLength, rowsLength, factorLength, answerAt, rowsAt, factorAt, endAt, flag as flagOf, pair, pairAt, pairSize, verdictField, answerField, rowsField, factorField, judgedFields, recordOf, Holds};
 use fields::HEADER_SIZE;
 use judge::Judgement;
 use limits::MOST_TANKS;
@@ -190,7 +190,7 @@ pub fn write_record(
     judgement: Judgement,
 ) -> usize
     requires { ⌜ Holds n rounds judgement (length (now out)) ⌝ }
-    ensures { λ r. ⌜ Written n rounds (now (answer .entry)) judgement (now (out .entry)) r (now (out .exit)) ⌝ }
+    ensures { λ r. ⌜ Wrote (recordOf n rounds (now (answer .entry)) judgement) 0 (now (out .entry)) r (now (out .exit)) ⌝ }
 {
     write_judged(out, n, rounds, answer, judgement);
     let end = end_at(n);

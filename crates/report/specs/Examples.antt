@@ -4,8 +4,7 @@ use mathlib.Core.Bool.{true, false}
 use mathlib.Core.List.{[], _∷_, _++_}
 use lib.IntN.{pos, negsuc, negℤ}
 use Rattle.buffer.specs.Buffer.{run}
-use Rattle.decimal.specs.Buffer.{ascii}
-use Rattle.decimal.specs.Decimal.{digits-within, digits, last-digits, signed, fixed-point}
+use Rattle.decimal.specs.Decimal.{digits-within, digits, last-digits, signed, fixed-point, ascii}
 use Rattle.judge.specs.declared.Judgement.{Judgement}
 use Rattle.report.specs.Text.{report, text, refusal-text, verdict-line, answer-line, row-line, factor-line}
 

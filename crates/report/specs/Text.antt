@@ -1,15 +1,13 @@
 -- What is printed of a judged case, and of a refusal, byte for byte: document 01's "Printed verdict". Definitions only. Assumes nothing.
-use mathlib.Core.Path.{_≡_}
 use mathlib.Core.Bool.{Bool, cond, _&&_}
 use mathlib.Core.List.{List, [], _∷_, _++_}
 use Prim.Native.Nat.{ℕ, _+_, _*_}
 use lib.Dec.{leb}
-use lib.ListN.{length, getD}
+use lib.ListN.{getD}
 use lib.IntN.{ℤ, pos}
 use Rattle.limits.specs.Limits.{mostTanks, mostExponent}
-use Rattle.decimal.specs.Buffer.{ascii, joined}
-use Rattle.buffer.specs.Buffer.{onto, run}
-use Rattle.decimal.specs.Decimal.{digits, signed, fixed-point}
+use Rattle.buffer.specs.Buffer.{run, concat}
+use Rattle.decimal.specs.Decimal.{digits, signed, fixed-point, ascii}
 use Rattle.judge.specs.declared.Judgement.{Judgement}
 use Rattle.judge.specs.Finding.{Finding, finding}
 
@@ -38,23 +36,23 @@ abbrev pub verdict-word : Bool → List ℕ
 verdict-word met = cond met (ascii "met row ") (ascii "unmet row ")
 
 unfoldable pub verdict-line : Bool → ℕ → ℕ → List ℕ
-verdict-line met row rounds = joined (labelled (verdict-word met) row ∷ labelled (ascii " rounds ") rounds ∷ line-feed ∷ [])
+verdict-line met row rounds = concat (labelled (verdict-word met) row ∷ labelled (ascii " rounds ") rounds ∷ line-feed ∷ [])
 
 -- "`answer 1 -0.4`": the tank's number, counted from 1, and Y / 10^e tonnes
 unfoldable pub answer-line : ℕ → ℕ → ℤ → List ℕ
-answer-line e tank figure = joined (labelled (ascii "answer ") tank ∷ ascii " " ∷ fixed-point e figure ∷ line-feed ∷ [])
+answer-line e tank figure = concat (labelled (ascii "answer ") tank ∷ ascii " " ∷ fixed-point e figure ∷ line-feed ∷ [])
 
 -- "`row 1 residual 0 reach 0`": the row's number, counted from 1, its residual R and its reach T
 unfoldable pub row-line : ℕ → ℤ → ℕ → List ℕ
 row-line row residual reach =
-    joined (labelled (ascii "row ") row ∷ ascii " residual " ∷ signed residual ∷ labelled (ascii " reach ") reach ∷ line-feed ∷ [])
+    concat (labelled (ascii "row ") row ∷ ascii " residual " ∷ signed residual ∷ labelled (ascii " reach ") reach ∷ line-feed ∷ [])
 
 -- "`factor row 1`", or "`factor none row 1`": the row that decides
 abbrev pub factor-word : Bool → List ℕ
 factor-word none = cond none (ascii "factor none row ") (ascii "factor row ")
 
 unfoldable pub factor-line : Bool → ℕ → List ℕ
-factor-line none row = joined (labelled (factor-word none) row ∷ line-feed ∷ [])
+factor-line none row = concat (labelled (factor-word none) row ∷ line-feed ∷ [])
 
 -- "The lines give the verdict, then every tank's answer and then every row by number, then the factor"
 abbrev pub answer-lines : ℕ → ℕ → (ℕ → ℤ) → List ℕ
@@ -65,7 +63,7 @@ row-lines n R T = run n (λ i. row-line (i + 1) (R i) (T i))
 
 unfoldable pub text : Report → List ℕ
 text r =
-    joined (
+    concat (
     verdict-line (r .found .met) (r .found .unmet) (r .rounds)
     ∷ answer-lines (r .n) (r .exponent) (r .answer)
     ∷ row-lines (r .n) (r .found .R) (r .found .T)
@@ -75,7 +73,7 @@ text r =
 
 -- "For a refusal it prints `refused`, a space and the number."
 unfoldable pub refusal-text : ℕ → List ℕ
-refusal-text number = joined (labelled (ascii "refused ") number ∷ line-feed ∷ [])
+refusal-text number = concat (labelled (ascii "refused ") number ∷ line-feed ∷ [])
 
 -- Room for the longest line of each kind, whatever the widths of its numbers admit (20 digits, or 19 and a minus; an answer has 10 digits,
 -- a minus, a point and up to three digits more; in the lines of answers and of rows the tank or row has one digit), and for all lines together. A shorter buffer gets
@@ -103,8 +101,3 @@ printed room r = cond (leb (r .n) mostTanks && (leb (r .exponent) mostExponent &
 
 unfoldable pub printed-refusal : ℕ → ℕ → List ℕ
 printed-refusal room number = cond (leb refusal-room room) (refusal-text number) []
-
--- the text stands at the buffer's front, the rest is as it was, and the count is the text's length
-pub record Printed (t before : List ℕ) (count : ℕ) (after : List ℕ) : Type 0 where
-  pub size : count ≡ length t
-  pub bytes : after ≡ onto t before

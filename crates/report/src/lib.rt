@@ -11,8 +11,8 @@ ghost use Prim.Native.Nat.{_+_, _*_, _≤_, _<_};
 ghost use lib.ListN.{length, getD};
 ghost use lib.IntN.{pos};
 ghost use Rattle.limits.specs.Limits.{mostTanks, mostExponent};
-ghost use Rattle.decimal.specs.Buffer.{Room, Wrote};
-ghost use Rattle.report.specs.Text.{report, labelled, «verdict-line», «answer-line», «row-line», «factor-line», «answer-lines», «row-lines», «verdict-room», «answer-room», «row-room», «factor-room», «text-room», text, printed, «printed-refusal», Printed};
+ghost use Rattle.buffer.specs.Buffer.{Room, Wrote};
+ghost use Rattle.report.specs.Text.{report, labelled, «verdict-line», «answer-line», «row-line», «factor-line», «answer-lines», «row-lines», «verdict-room», «answer-room», «row-room», «factor-room», «text-room», text, printed, «printed-refusal»};
 ghost use Rattle.report.specs.Lines.{WroteWithin};
 
 // A buffer of this many bytes is enough for every report.
@@ -160,7 +160,7 @@ pub fn render(
     judgement: Judgement,
     out: &mut [u8],
 ) -> usize
-    ensures { λ r. ⌜ Printed (printed (length (now (out .entry))) (report n e rounds (now (answer .entry)) judgement)) (now (out .entry)) r (now (out .exit)) ⌝ }
+    ensures { λ r. ⌜ Wrote (printed (length (now (out .entry))) (report n e rounds (now (answer .entry)) judgement)) 0 (now (out .entry)) r (now (out .exit)) ⌝ }
 {
     if MOST_TANKS < n {
         return 0;
@@ -176,7 +176,7 @@ pub fn render(
 
 // Prints a refusal, in the same way. The text is empty where out is shorter than REFUSAL_ROOM.
 pub fn render_refusal(number: u8, out: &mut [u8]) -> usize
-    ensures { λ r. ⌜ Printed (printed-refusal (length (now (out .entry))) number) (now (out .entry)) r (now (out .exit)) ⌝ }
+    ensures { λ r. ⌜ Wrote (printed-refusal (length (now (out .entry))) number) 0 (now (out .entry)) r (now (out .exit)) ⌝ }
 {
     if out.len() < REFUSAL_ROOM {
         return 0;

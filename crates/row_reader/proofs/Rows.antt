@@ -2,9 +2,8 @@
 -- Assumes nothing.
 use mathlib.Core.Path.{_≡_, refl, sym, ap, _∙_}
 use mathlib.Core.List.{List, [], _∷_, _++_}
-use Prim.Native.Nat.{ℕ, _+_, _*_, _-_, _≤_, _<_}
+use Prim.Native.Nat.{ℕ, _+_, _-_, _≤_, _<_}
 use native.Mathlib.Omega.{arith}
-use native.Mathlib.Nat.{zero-mul, suc-mul, mul-le-mul-right}
 use lib.ListN.{length, drop, length-append}
 use borrow.Rule.Slice.PartMut.{putMid}
 use Rattle.outcome.specs.declared.Refusal.{Refusal}
@@ -14,22 +13,16 @@ use Rattle.outcome.specs.Laws.{stops, first-goes-on, not-both}
 use Rattle.buffer.specs.Laws.{filled, length-onto}
 use Rattle.figures.specs.LoopLaws.{Reading, begun, stopped, turn, ended}
 use Rattle.limits.specs.Limits.{mostTanks}
-use Rattle.rows.specs.Block.{Block, block, Counts, Room, RowsRoom, stacked, over, together}
+use Rattle.rows.specs.Block.{Block, block, Counts, Holds, SameLengths, RowsRoom, stacked, over, together}
 use Rattle.casefile.specs.Layout.{rowSize}
 use Rattle.casefile.specs.Decode.{rowAt, rowStatus, rowsStatus}
-use Rattle.casefile.specs.BlockLaws.{SoundBlock, counts, Rows, none, together-sound, together-more, rows-more, next-row}
+use Rattle.casefile.specs.BlockLaws.{SoundBlock, counts, Rows, none, together-sound, together-more, rows-more, AtRow, first-row, rows-held, row-held, next-row}
 use Rattle.casefile.specs.RowLaws.{row-sound, row-room}
 use Rattle.row_reader.specs.Read.{RowRead, RowsRead}
 
-pub record SameLengths (r s : Block) : Type 0 where
-  pub la : length (r .coefficients) ≡ length (s .coefficients)
-  pub lt : length (r .tolerances) ≡ length (s .tolerances)
-  pub lb : length (r .right-sides) ≡ length (s .right-sides)
-  pub lf : length (r .right-tolerances) ≡ length (s .right-tolerances)
-
 -- figures over the fronts of lists that have room for them, and a row's figures behind them
 module _ {k m : ℕ} (d : Block) (c : Counts k m d) (lists₀ lists : Block) (e : lists ≡ over d lists₀) where
-  over-lengths : Room k m lists₀ → SameLengths lists lists₀
+  over-lengths : Holds k m lists₀ → SameLengths lists lists₀
   over-lengths h =
       rw e
       (record {
@@ -56,8 +49,7 @@ module _ {k m : ℕ} (d : Block) (c : Counts k m d) (lists₀ lists : Block) (e 
 
 module _ (s : List ℕ) (at n : ℕ) (lists₀ : Block) where
   pub record ReadingRows (lists : Block) (i from p : ℕ) : Type 0 where
-    pub room : RowsRoom n lists₀
-    pub place : from ≡ i * n
+    pub at-row : AtRow n lists₀ i from
     done : List Block
     sound : Rows n done
     count : length done ≡ i
@@ -65,18 +57,18 @@ module _ (s : List ℕ) (at n : ℕ) (lists₀ : Block) where
     pub read : Reading (rowSize n) (rowAt n) (rowsStatus n) n s at done i p
 
   pub begun-rows : RowsRoom n lists₀ → ReadingRows lists₀ 0 0 at
-  begun-rows r = record { room = r; place = sym (zero-mul n); done = []; sound = none; count = refl; is = refl; read = begun }
+  begun-rows r = record { at-row = first-row r; done = []; sound = none; count = refl; is = refl; read = begun }
 
   module _ {lists : Block} {i from p : ℕ} (r : ReadingRows lists i from p) where
     counted : Counts from i (together (r .done))
-    counted = rw (r .count, ← (r .place)) at (counts (together-sound n (r .sound)))
+    counted = rw (r .count, ← (r .at-row .place)) at (counts (together-sound n (r .sound)))
 
     pub lengths : SameLengths lists lists₀
-    lengths = over-lengths (together (r .done)) counted lists₀ lists (r .is) (omega (arith, r .room .room, r .place, mul-le-mul-right n (r .read .count)))
+    lengths = over-lengths (together (r .done)) counted lists₀ lists (r .is) (rows-held (r .at-row) (r .read .count))
 
     -- the next row finds room
-    pub next : i < n → (n ≤ mostTanks) × Room (from + n) (i + 1) lists × SameLengths lists lists₀
-    next h = (r .room .small, omega (arith, next-row (r .room) (r .place) h, lengths), lengths)
+    pub next : i < n → (n ≤ mostTanks) × Holds (from + n) (i + 1) lists × SameLengths lists lists₀
+    next h = (r .at-row .room .small, omega (arith, row-held (r .at-row) h, lengths), lengths)
 
     pub stopped-rows : i < n → (x : Status) (q : Refusal) → x ≡ rowStatus n (drop p s) → x ≡ Refused q → (exit : Block) → RowsRead n (drop at s) lists₀ x exit
     unfolding rowsStatus
@@ -101,8 +93,7 @@ module _ (s : List ℕ) (at n : ℕ) (lists₀ : Block) where
         let so : SoundBlock n 1 row = rw made (row-sound n (drop p s) acc) in
         rw e
         (record {
-          room = r .room;
-          place = omega (arith, r .place, suc-mul i n);
+          at-row = next-row (r .at-row);
           done = r .done ++ (row ∷ []);
           sound = rows-more (r .sound) so;
           count = length-append (r .done) (row ∷ []) ∙ omega (arith, r .count);

@@ -48,26 +48,36 @@ unfoldable pub split : ℕ → ℕ → Block → List Block
 split n zero r = []
 split n (suc m) r = front n 1 r ∷ split n m (behind n 1 r)
 
+-- no row
+abbrev pub noRow : Block
+noRow = block [] [] [] []
+
 -- rows one after another as one block
 abbrev pub together : List Block → Block
-together [] = block [] [] [] []
+together [] = noRow
 together (r ∷ rs) = stacked r (together rs)
 
 -- ---- how many figures
 
+-- the four lists' lengths, each in the relation R to a number
+pub record Lengths (R : ℕ → ℕ → Type 0) (r : Block) (a t b f : ℕ) : Type 0 where
+  pub la : R (length (r .coefficients)) a
+  pub lt : R (length (r .tolerances)) t
+  pub lb : R (length (r .right-sides)) b
+  pub lf : R (length (r .right-tolerances)) f
+
 -- k coefficients and tolerances, m right sides and their tolerances
-pub record Counts (k m : ℕ) (r : Block) : Type 0 where
-  pub la : length (r .coefficients) ≡ k
-  pub lt : length (r .tolerances) ≡ k
-  pub lb : length (r .right-sides) ≡ m
-  pub lf : length (r .right-tolerances) ≡ m
+abbrev pub Counts : ℕ → ℕ → Block → Type 0
+Counts k m r = Lengths (λ x y. x ≡ y) r k k m m
 
 -- room for so many
-pub record Room (k m : ℕ) (r : Block) : Type 0 where
-  pub la : k ≤ length (r .coefficients)
-  pub lt : k ≤ length (r .tolerances)
-  pub lb : m ≤ length (r .right-sides)
-  pub lf : m ≤ length (r .right-tolerances)
+abbrev pub Holds : ℕ → ℕ → Block → Type 0
+Holds k m r = Lengths (λ x y. y ≤ x) r k k m m
+
+-- as many as another block
+abbrev pub SameLengths : Block → Block → Type 0
+SameLengths r s =
+    Lengths (λ x y. x ≡ y) r (length (s .coefficients)) (length (s .tolerances)) (length (s .right-sides)) (length (s .right-tolerances))
 
 -- lists of one row's figures
 pub record RowLists (n : ℕ) (r : Block) : Type 0 where
@@ -77,4 +87,4 @@ pub record RowLists (n : ℕ) (r : Block) : Type 0 where
 -- lists that hold the figures of n rows
 pub record RowsRoom (n : ℕ) (r : Block) : Type 0 where
   pub small : n ≤ mostTanks
-  pub room : Room (n * n) n r
+  pub room : Holds (n * n) n r

@@ -12,8 +12,7 @@ use Rattle.casefile.specs.Layout.{encode}
 use Rattle.casefile.specs.Write.{leaves}
 use Rattle.casefile.specs.Examples.{printedBytes, nineTanks, leastCoefficient}
 use Rattle.recordfile.specs.Layout.{longestRecord}
-use Rattle.decimal.specs.Buffer.{ascii}
-use Rattle.decimal.specs.Decimal.{digits-within, digits, last-digits, signed, fixed-point}
+use Rattle.decimal.specs.Decimal.{digits-within, digits, last-digits, signed, fixed-point, ascii}
 use Rattle.report.specs.Text.{text-room, text, printed as rendered, verdict-line, answer-line, row-line, factor-line}
 use Rattle.verdict_text.specs.Verdict.{verdict-of}
 use Rattle.casefile.specs.Decode.{decode}

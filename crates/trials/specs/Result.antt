@@ -13,7 +13,7 @@ use Rattle.judge.specs.System.{residual, reach}
 use Rattle.judge.specs.Judgement.{first-not, first-unmet, deciding, judgement}
 use Rattle.judge.specs.Finding.{Finding, factor-num, factor-den}
 use Rattle.bigendian.specs.Number.{be, bytes}
-use Rattle.figures.specs.Figures.{items, spread, all}
+use Rattle.figures.specs.Figures.{items, spread}
 use Rattle.fields.specs.Field.{field, fieldStatus}
 use Rattle.rows.specs.Block.{split}
 use Rattle.casefile.specs.Case.{Case, rowsFine}
@@ -25,7 +25,7 @@ use Rattle.elimination.specs.Outcome.{outcome}
 use Rattle.substitution.specs.Passes.{forward, correction, backward-from, backward}
 use Rattle.solver.specs.Refinement.{gained-from, updated, round, refined}
 use Rattle.solver.specs.Solution.{solution}
-use Rattle.buffer.specs.Buffer.{run}
+use Rattle.buffer.specs.Buffer.{run, all}
 use Rattle.recordfile.specs.Layout.{judgedFields, recordOf, longestRecord}
 use Rattle.recordfile.specs.ReadOff.{recordedRounds, recordedAnswer, recordedFinding}
 use Rattle.ballast.specs.Call.{worked, answer-of, finished, call}

@@ -5,7 +5,6 @@ use denote.Ref.{now}
 use Rattle.casefile.specs.Decode.{decode}
 use Rattle.casefile.specs.WriteLaws.{filed-short, filed-refused, filed-whole}
 use Rattle.recordfile.specs.Layout.{longestRecord}
-use Rattle.recordfile.specs.Laws.{length-record}
 use Rattle.ballast.specs.Call.{answer-of, record-of, finished, call}
 use Rattle.ballast.specs.Theorem.{promised, answer-recordable}
 use borrow.Author.Needs.{needs}
@@ -41,11 +40,10 @@ returns-3 c =
     let k = e .before .before in
     let a = k .before .before .before .before .args in
     let x = k .answer-case .result in
-    let w = c .before .before .write-record .ensures in
     promised (now (a .input)) (now (a .out)) _ _
     (rw (← (k .answer-case .ensures))
-    (filed-whole longestRecord (x .status) (record-of x) (now (a .out)) _ _ (k .before .if1 .left) (e .enum-told .given .1)
-    (w .count ∙ sym (length-record (x .n) (x .rounds) (x .trial) (x .judgement))) (w .buffer)))
+    (filed-whole longestRecord (x .status) (record-of x) (now (a .out)) (k .before .if1 .left) (e .enum-told .given .1)
+    (c .before .before .write-record .ensures)))
 
 pub judge-case-spec : {M : Type 1} → statement M
 judge-case-spec =

@@ -1,12 +1,14 @@
 -- `case_reader::read_head` meets its contract: the field's refusal, then the limits of n, e and K.
 -- Assumes nothing.
-use Prim.Native.Nat.{ℕ, _≤_}
+use Prim.Native.Nat.{ℕ, _+_, _≤_}
 use native.Mathlib.Omega.{arith}
 use mathlib.Core.List.{List}
-use mathlib.Core.Path.{sym, _∙_}
-use lib.ListN.{length}
+use mathlib.Core.Path.{_≡_, sym, _∙_}
+use lib.ListN.{length, getD}
+use lib.Seq.{getD-drop}
 use denote.Ref.{now}
 use Rattle.outcome.specs.declared.Refusal.the-variants.{OutsideLimits}
+use Rattle.fields.specs.Field.{headerSize, valueOf}
 use Rattle.fields.specs.FieldLaws.{field-room}
 use Rattle.casefile.specs.Layout.{headTag, headLength, nAt, exponentAt, roundsAt, rowsAt}
 use Rattle.casefile.specs.Decode.{headStatus}
@@ -22,6 +24,9 @@ module _ (k : tie.After-enum-told2) where
 
   long : rowsAt ≤ length s
   long = field-room headTag headLength s (sym (k .before .before .check-field .ensures) ∙ k .enum-told2 .given .1)
+
+  value-byte : (i : ℕ) → getD (valueOf s) i 0 ≡ getD s (headerSize + i) 0
+  value-byte i = getD-drop headerSize s i 0
 
 returns : tie.Need-returns
 unfolding headStatus
@@ -40,8 +45,9 @@ returns-2 : tie.Need-returns-2
 unfolding headStatus
 returns-2 c =
     let k = c .before .before .before .before .before in
-    answer-goes-on (k .before .before .check-field .ensures) OutsideLimits (k .enum-told2 .given .1)
-    (record { status = c .before .head-fine .ensures; made = λ e. rw (c .check .ensures, e) }) (c .check .ensures)
+    rw (value-byte k 0, value-byte k 1, value-byte k 2)
+    (answer-goes-on (k .before .before .check-field .ensures) OutsideLimits (k .enum-told2 .given .1)
+    (record { status = c .before .head-fine .ensures; made = λ e. rw (c .check .ensures, e) }) (c .check .ensures))
 
 pub read-head-spec : {M : Type 1} → statement M
 read-head-spec =

@@ -3,7 +3,8 @@
 use mathlib.Core.Path.{_≡_, sym, _∙_}
 use mathlib.Core.Bool.{true}
 use denote.Ref.{now}
-use Rattle.figures.specs.Figures.{within, upTo, all}
+use Rattle.buffer.specs.Buffer.{all}
+use Rattle.figures.specs.Figures.{within, upTo}
 use Rattle.limits.specs.Limits.{coefficientLimit, toleranceLimit, rightSideLimit, rightToleranceLimit}
 use Rattle.casefile.specs.Case.{rowsFine, figuresFine}
 use borrow.Author.Needs.{needs}

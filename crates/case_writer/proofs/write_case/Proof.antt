@@ -40,8 +40,8 @@ returns-3 c =
     let w = c .before .before in
     let k = w .before .before .before .before in
     let s = k .before .before .before .before .before in
-    filed-whole longestCase (caseStatus (case-of s)) (encode (case-of s)) (now (s .args .out)) _ _ (k .before .if1 .left)
-    (sym (k .check-case .ensures) ∙ w .before .before .enum-told .given .1) (w .write-fields .ensures .0) (w .write-fields .ensures .1)
+    filed-whole longestCase (caseStatus (case-of s)) (encode (case-of s)) (now (s .args .out)) (k .before .if1 .left)
+    (sym (k .check-case .ensures) ∙ w .before .before .enum-told .given .1) (w .write-fields .ensures)
 
 pub write-case-spec : {M : Type 1} → statement M
 write-case-spec =

@@ -64,11 +64,9 @@ returns c =
     let e = c .before .before in
     let z = e .before .before in
     let r = tail z in
-    let s = start r in (
-      omega (arith, length-encode (case s) (fine s), r .rows-end .ensures, z .trial-size .ensures),
-      fields-written (case s) (fine s) _ _ (now (s .args .out)) _ _ _ _ (r .rows-end .ensures) (omega (arith, z .trial-size .ensures))
-          (head r .write-head .ensures) (rows r .write-rows .ensures) (trial z .write-trial .ensures) (e .write-end .ensures),
-    )
+    let s = start r in
+    fields-written (case s) (fine s) _ _ (now (s .args .out)) _ _ _ _ (r .rows-end .ensures) (omega (arith, z .trial-size .ensures))
+    (head r .write-head .ensures) (rows r .write-rows .ensures) (trial z .write-trial .ensures) (e .write-end .ensures)
 
 pub write-fields-spec : {M : Type 1} → statement M
 write-fields-spec =

@@ -1,21 +1,14 @@
 -- `decimal::write_bytes` meets its contract. The loop's invariant: the first i bytes of the word are written.
 -- Assumes nothing.
-use mathlib.Core.Path.{_≡_, refl, _∙_}
-use mathlib.Core.List.{List, [], _∷_}
-use Prim.Native.Nat.{ℕ, zero, suc, _-_, _≤_}
+use mathlib.Core.List.{[], _∷_}
+use Prim.Native.Nat.{_-_}
 use native.Mathlib.Omega.{arith}
-use lib.ListN.{length, take, getD}
-use lib.Seq.{take-suc, take-all}
-use Rattle.buffer.specs.Buffer.{run}
-use Rattle.buffer.specs.Laws.{set-onto-at}
-use Rattle.buffer.specs.RunLaws.{Running, run-begun, run-next, run-turn, run-ended}
+use lib.ListN.{length, getD}
+use lib.Seq.{take-all}
+use Rattle.buffer.specs.WroteLaws.{wrote-one}
+use Rattle.buffer.specs.RunLaws.{joined-each, joined-run, Running, run-begun, run-next, run-turn, run-ended}
 use Rattle.decimal.proofs.write_bytes.Statement.{statement}
 use Rattle.decimal.proofs.write_bytes.Tie as tie
-
-take-run : (l : List ℕ) (i : ℕ) → i ≤ length l → run i (λ j. getD l j 0 ∷ []) ≡ take i l
-unfolding run
-take-run l zero h = refl
-take-run l (suc i) h = rw (take-suc l i 0 h, take-run l i (omega arith))
 
 abbrev Inv-loop : tie.InvT-loop
 Inv-loop word at out₀ i₀ p₀ out i p = Running 1 (λ j. getD word j 0 ∷ []) (length word) at out₀ out i p
@@ -27,14 +20,14 @@ loop-again : tie.Need-loop-again Inv-loop μ-loop
 loop-again c =
     let l = c .before .before .loop in
     let n = run-next (l .inv) (c .before .loop-test .taken) in
-    run-turn (l .inv) (c .before .loop-test .taken) (omega arith) refl (set-onto-at (l .p) _ (l .out) (omega arith))
+    run-turn (l .inv) (c .before .loop-test .taken) (omega arith) (wrote-one (l .p) _ (l .out) (omega arith))
 
 returns : tie.Need-returns Inv-loop μ-loop
 returns c =
     let e = run-ended (c .before .loop .inv) (c .loop-test .left) in
     let w = c .before .before .args .word .now in
-    let q : run (length w) (λ j. getD w j 0 ∷ []) ≡ w = take-run w (length w) (omega arith) ∙ take-all (length w) w (omega arith) in
-    record { place = rw q at (e .place); bytes = rw q at (e .is) }
+    let q = joined-run (λ x. x ∷ []) 0 w (length w) (omega arith) in
+    rw (← q, take-all (length w) w (omega arith), joined-each w) at (e .wrote)
 
 pub write-bytes-spec : {M : Type 1} → statement M
 write-bytes-spec =

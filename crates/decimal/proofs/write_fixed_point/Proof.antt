@@ -11,8 +11,8 @@ use lib.IntN.{ℤ, natAbs}
 use mir.Syntax.{w64}
 use mir.Facts.{toZ-ofZ}
 use borrow.Author.Needs.{needs}
-use Rattle.decimal.specs.Buffer.{Room, Wrote}
-use Rattle.decimal.specs.BufferLaws.{room-front, room-next, wrote-then}
+use Rattle.buffer.specs.Buffer.{Room, Wrote}
+use Rattle.buffer.specs.WroteLaws.{room-front, room-next, wrote-then}
 use Rattle.decimal.specs.Decimal.{digits, minus, fraction, fixed-point}
 use Rattle.decimal.proofs.write_fixed_point.Statement.{statement}
 use Rattle.decimal.proofs.write_fixed_point.Tie as tie

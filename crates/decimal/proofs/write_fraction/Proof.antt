@@ -6,8 +6,8 @@ use native.Mathlib.Omega.{arith}
 use denote.Ref.{now}
 use lib.ListN.{length, set, length-set}
 use borrow.Author.Needs.{needs}
-use Rattle.decimal.specs.Buffer.{Room, Wrote}
-use Rattle.decimal.specs.BufferLaws.{room-next, wrote-none, wrote-byte, wrote-then}
+use Rattle.buffer.specs.Buffer.{Room, Wrote}
+use Rattle.buffer.specs.WroteLaws.{room-next, wrote-none, wrote-one, wrote-then}
 use Rattle.decimal.specs.Decimal.{last-digits}
 use Rattle.decimal.specs.DigitLaws.{fraction-some}
 use Rattle.decimal.proofs.write_fraction.Statement.{statement}
@@ -22,7 +22,7 @@ module _ (c : tie.Else1) where
   inside = omega (arith, room .room)
 
   point : let s = c .before .before in Wrote (46 ∷ []) (s .args .at) (now (s .args .out)) (s .args .at + 1) (set (now (s .args .out)) (s .args .at) 46)
-  point = let s = c .before .before in wrote-byte (s .args .at) 46 (now (s .args .out)) inside
+  point = let s = c .before .before in wrote-one (s .args .at) 46 (now (s .args .out)) inside
 
 returns : tie.Need-returns
 returns c = rw (c .if1 .taken) (wrote-none (c .before .before .args .at))

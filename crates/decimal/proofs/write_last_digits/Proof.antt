@@ -5,8 +5,7 @@ use mathlib.Core.List.{List, [], _∷_}
 use Prim.Native.Nat.{ℕ, suc, _+_, _-_, _/_, _%_, _≤_}
 use native.Mathlib.Omega.{arith}
 use lib.ListN.{length, set, length-set}
-use Rattle.decimal.specs.Buffer.{Wrote}
-use Rattle.buffer.specs.Buffer.{onto-at}
+use Rattle.buffer.specs.Buffer.{onto-at, Wrote}
 use Rattle.buffer.specs.Laws.{onto-at-none, onto-at-before, set-onto-at}
 use Rattle.decimal.specs.Decimal.{digit, last-digits}
 use Rattle.decimal.specs.DigitLaws.{length-last-digits}

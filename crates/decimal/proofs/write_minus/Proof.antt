@@ -8,8 +8,8 @@ use denote.Ref.{now}
 use lib.ListN.{length}
 use mir.Facts.{toZ-ofZ}
 use borrow.Author.Needs.{needs}
-use Rattle.decimal.specs.Buffer.{Room}
-use Rattle.decimal.specs.BufferLaws.{wrote-none, wrote-byte}
+use Rattle.buffer.specs.Buffer.{Room}
+use Rattle.buffer.specs.WroteLaws.{wrote-none, wrote-one}
 use Rattle.decimal.specs.Decimal.{minus}
 use Rattle.decimal.specs.DigitLaws.{minus-below-zero, minus-from-zero}
 use Rattle.decimal.proofs.write_minus.Statement.{statement}
@@ -26,7 +26,7 @@ slice-write-out : tie.Need-slice-write-out
 slice-write-out c = inside c
 
 returns : tie.Need-returns
-returns c = rw (below c) (wrote-byte (c .before .args .at) 45 (now (c .before .args .out)) (inside c))
+returns c = rw (below c) (wrote-one (c .before .args .at) 45 (now (c .before .args .out)) (inside c))
 
 returns-2 : tie.Need-returns-2
 returns-2 c =

@@ -7,8 +7,8 @@ use lib.IntN.{natAbs}
 use mir.Syntax.{w64}
 use mir.Facts.{toZ-ofZ}
 use borrow.Author.Needs.{needs}
-use Rattle.decimal.specs.Buffer.{Room, Wrote}
-use Rattle.decimal.specs.BufferLaws.{room-front, room-next, wrote-then}
+use Rattle.buffer.specs.Buffer.{Room, Wrote}
+use Rattle.buffer.specs.WroteLaws.{room-front, room-next, wrote-then}
 use Rattle.decimal.specs.Decimal.{digits, minus, signed}
 use Rattle.decimal.proofs.write_signed.Statement.{statement}
 use Rattle.decimal.proofs.write_signed.Tie as tie

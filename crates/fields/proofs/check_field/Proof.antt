@@ -11,10 +11,8 @@ use lib.Seq.{getD-drop, drop-drop}
 use lib.Dec.{leb, eqb}
 use denote.Ref.{now}
 use borrow.Author.Tests.{le-leb, lt-leb, eq-eqb, ne-eqb}
-use Rattle.outcome.specs.declared.Refusal.the-variants.{FieldMissing, WrongTag, WrongLength, ValueCutShort}
-use Rattle.outcome.specs.Outcome.{check, first}
 use Rattle.bigendian.specs.Number.{be}
-use Rattle.fields.specs.Field.{lengthAt, lengthSize, headerSize, fieldStatus}
+use Rattle.fields.specs.Field.{lengthAt, lengthSize, headerSize, inTurn, fieldStatus}
 use borrow.Author.Needs.{needs}
 use Rattle.fields.proofs.check_field.Statement.{statement}
 use Rattle.fields.proofs.check_field.Tie as tie
@@ -32,7 +30,7 @@ module _ (c : tie.Start) where
       → eqb (getD s at 0) (c .args .tag) ≡ b2
       → eqb (be (take lengthSize (drop (at + lengthAt) s))) (c .args .len) ≡ b3
       → leb (c .args .len) (length s - at - headerSize) ≡ b4
-      → first (check b1 FieldMissing) (first (check b2 WrongTag) (first (check b3 WrongLength) (check b4 ValueCutShort))) ≡ fieldStatus (c .args .tag) (c .args .len) (drop at s)
+      → inTurn b1 b2 b3 b4 ≡ fieldStatus (c .args .tag) (c .args .len) (drop at s)
   unfolding fieldStatus
   at-place e1 e2 e3 e4 = rw (length-drop at s, getD-drop at s 0 0, add-zero at, drop-drop lengthAt at s, e1, e2, e3, e4)
 

@@ -3,19 +3,19 @@
 use native.Mathlib.Omega.{arith}
 use mathlib.Core.List.{[], _∷_}
 use mathlib.Core.Path.{refl}
-use lib.ListN.{set, length-set}
+use lib.ListN.{length-set}
 use lib.Seq.{sets-eq}
 use denote.Ref.{now}
 use Rattle.bigendian.specs.Number.{bytes}
-use Rattle.buffer.specs.Laws.{then}
-use Rattle.fields.specs.Field.{lengthAt, lengthSize}
+use Rattle.buffer.specs.WroteLaws.{wrote-two}
+use Rattle.fields.specs.Field.{lengthSize}
 use borrow.Author.Needs.{needs}
 use Rattle.fields.proofs.write_header.Statement.{statement}
 use Rattle.fields.proofs.write_header.Tie as tie
 
 returns : tie.Need-returns
 returns c = let a = c .before .before .before .before .before .args in
-    then (now (a .out)) (set (now (a .out)) 0 (a .tag)) (a .tag ∷ []) (bytes lengthSize (a .len)) lengthAt _ (sets-eq (a .tag ∷ []) (now (a .out)) 0 (omega arith)) refl (c .before .before .write-u16 .ensures)
+    wrote-two (a .tag ∷ []) (bytes lengthSize (a .len)) (now (a .out)) (sets-eq (a .tag ∷ []) (now (a .out)) 0 (omega arith)) refl (c .before .before .write-u16 .ensures)
 
 pub write-header-spec : {M : Type 1} → statement M
 write-header-spec =

@@ -1,10 +1,9 @@
 -- `recordfile::write_judged` meets its contract: the four fields, one behind the other. Assumes nothing.
 use mathlib.Core.Path.{sym, _∙_}
-use Prim.Native.Nat.{ℕ}
 use denote.Ref.{now}
 use borrow.Author.Needs.{needs}
-use Rattle.buffer.specs.Laws.{then}
-use Rattle.recordfile.specs.Layout.{answerAt, answerField, rowsField, factorField, judgedFields}
+use Rattle.buffer.specs.WroteLaws.{wrote-two}
+use Rattle.recordfile.specs.Layout.{answerField, rowsField, factorField, judgedFields}
 use Rattle.recordfile.specs.Laws.{first-one, first-two, first-three, length-one, length-two, length-three}
 use Rattle.recordfile.proofs.write_judged.Statement.{statement}
 use Rattle.recordfile.proofs.write_judged.Tie as tie
@@ -17,9 +16,9 @@ returns c =
     let n = a .n in
     let Y = now (a .answer) in
     let j = a .judgement in
-    let two = then {X = ℕ} out _ (first-one n (a .rounds) Y j) (answerField n Y) answerAt _ (c .before .before .before .before .before .before .before .before .before .before .before .before .before .before .before .before .before .before .before .before .write-verdict .ensures) (length-one n (a .rounds) Y j) (c .before .before .before .before .before .before .before .before .before .before .before .before .before .before .before .write-answer .ensures) in
-    let three = then out _ (first-two n (a .rounds) Y j) (rowsField n (j .residuals) (j .reaches)) _ _ two (length-two n (a .rounds) Y j ∙ sym (c .before .before .before .before .before .before .before .before .before .before .before .before .rows-at .ensures)) (c .before .before .before .before .before .before .before .before .write-rows .ensures) in
-    then out _ (first-three n (a .rounds) Y j) (factorField (j .none) (j .decides)) _ _ three (length-three n (a .rounds) Y j ∙ sym (c .before .before .before .before .before .factor-at .ensures)) (c .before .before .write-factor .ensures)
+    let two = wrote-two (first-one n (a .rounds) Y j) (answerField n Y) out (c .before .before .before .before .before .before .before .before .before .before .before .before .before .before .before .before .before .before .before .before .write-verdict .ensures) (length-one n (a .rounds) Y j) (c .before .before .before .before .before .before .before .before .before .before .before .before .before .before .before .write-answer .ensures) in
+    let three = wrote-two (first-two n (a .rounds) Y j) (rowsField n (j .residuals) (j .reaches)) out two (length-two n (a .rounds) Y j ∙ sym (c .before .before .before .before .before .before .before .before .before .before .before .before .rows-at .ensures)) (c .before .before .before .before .before .before .before .before .write-rows .ensures) in
+    wrote-two (first-three n (a .rounds) Y j) (factorField (j .none) (j .decides)) out three (length-three n (a .rounds) Y j ∙ sym (c .before .before .before .before .before .factor-at .ensures)) (c .before .before .write-factor .ensures)
 
 pub write-judged-spec : {M : Type 1} → statement M
 write-judged-spec =

@@ -47,4 +47,4 @@ write-pairs-spec =
     (λ c. omega arith)
     loop-again
     (λ c. omega (arith, c .before .loop .inv .same))
-    (λ c. run-ended (c .before .loop .inv) (c .loop-test .left) .is))
+    (λ c. run-ended (c .before .loop .inv) (c .loop-test .left) .wrote .bytes))

@@ -1,10 +1,12 @@
 -- `recordfile::write_record` meets its contract: the end field behind the four fields. Assumes nothing.
+use mathlib.Core.List.{[]}
 use mathlib.Core.Path.{sym, _∙_}
 use native.Mathlib.Omega.{arith}
 use denote.Ref.{now}
 use borrow.Author.Needs.{needs}
-use Rattle.buffer.specs.Laws.{then}
-use Rattle.fields.specs.Field.{endField}
+use Rattle.buffer.specs.WroteLaws.{wrote-front, wrote-more}
+use Rattle.fields.specs.Field.{endTag, endField}
+use Rattle.fields.specs.FieldLaws.{length-field}
 use Rattle.recordfile.specs.Layout.{judgedFields, recordOf}
 use Rattle.recordfile.specs.Laws.{length-judged}
 use Rattle.recordfile.proofs.write_record.Statement.{statement}
@@ -16,11 +18,10 @@ returns c =
     let a = c .before .before .before .before .before .before .before .before .before .before .args in
     let Y = now (a .answer) in
     let e = c .before .before .before .before .end-at .ensures in
-    record {
-      count = omega arith;
-      buffer =
-          then (now (a .out)) _ (judgedFields (a .n) (a .rounds) Y (a .judgement)) endField _ _ (c .before .before .before .before .before .before .before .write-judged .ensures) (length-judged (a .n) (a .rounds) Y (a .judgement) ∙ sym e) (c .before .before .write-end .ensures);
-    }
+    wrote-more endField _
+    (wrote-front (judgedFields (a .n) (a .rounds) Y (a .judgement)) (now (a .out)) (c .before .before .before .before .before .before .before .write-judged .ensures)
+    (length-judged (a .n) (a .rounds) Y (a .judgement) ∙ sym e))
+    (c .before .before .write-end .ensures) (omega (arith, length-field endTag []))
 
 pub write-record-spec : {M : Type 1} → statement M
 write-record-spec =

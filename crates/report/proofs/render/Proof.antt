@@ -9,7 +9,7 @@ use borrow.Author.Tests.{le-leb, lt-leb}
 use denote.Ref.{now}
 use Rattle.limits.specs.Limits.{mostTanks, mostExponent}
 use Rattle.report.specs.Text.{text-room, printed}
-use Rattle.report.specs.Lines.{from-front, nothing}
+use Rattle.buffer.specs.WroteLaws.{wrote-none}
 use Rattle.report.proofs.render.Statement.{statement}
 use Rattle.report.proofs.render.Tie as tie
 
@@ -25,28 +25,28 @@ unfolding printed
 returns c =
     let g = c .before .before .args in
     let t : leb (g .n) mostTanks ≡ false = lt-leb _ _ (c .if1 .taken) in
-    rw t (nothing (now (g .out)))
+    rw t (wrote-none 0)
 
 returns-2 : tie.Need-returns-2
 unfolding printed
 returns-2 c =
     let g = c .before .before .before .args in
     let t : leb (g .e) mostExponent ≡ false = lt-leb _ _ (c .if2 .taken) in
-    rw (few-tanks (c .before), t) (nothing (now (g .out)))
+    rw (few-tanks (c .before), t) (wrote-none 0)
 
 returns-3 : tie.Need-returns-3
 unfolding printed
 returns-3 c =
     let g = c .before .before .before .before .args in
     let t : leb text-room (length (now (g .out))) ≡ false = lt-leb _ _ (c .if3 .taken) in
-    rw (few-tanks (c .before .before), small-exponent (c .before), t) (nothing (now (g .out)))
+    rw (few-tanks (c .before .before), small-exponent (c .before), t) (wrote-none 0)
 
 returns-4 : tie.Need-returns-4
 unfolding printed
 returns-4 c =
     let i = c .before .before .before .before in
     let t : leb text-room (length (now (i .before .before .before .before .args .out))) ≡ true = le-leb _ _ (i .if3 .left) in
-    rw (few-tanks (i .before .before), small-exponent (i .before), t) (from-front (c .before .before .write-text .ensures))
+    rw (few-tanks (i .before .before), small-exponent (i .before), t) (c .before .before .write-text .ensures)
 
 pub render-spec : {M : Type 1} → statement M
 render-spec =

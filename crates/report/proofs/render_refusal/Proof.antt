@@ -7,10 +7,10 @@ use denote.Ref.{now}
 use lib.Dec.{lit≤}
 use borrow.Author.Needs.{needs}
 use borrow.Author.Tests.{le-leb, lt-leb}
-use Rattle.decimal.specs.Buffer.{ascii, Room}
-use Rattle.decimal.specs.BufferLaws.{Rooms, room-here, room-after, wrote-first, wrote-last}
+use Rattle.decimal.specs.Decimal.{ascii}
+use Rattle.buffer.specs.Buffer.{Room}
+use Rattle.buffer.specs.WroteLaws.{wrote-none, Rooms, room-here, room-after, wrote-first, wrote-last}
 use Rattle.report.specs.Text.{labelled, line-feed, refusal-text, printed-refusal}
-use Rattle.report.specs.Lines.{from-front, nothing}
 use Rattle.report.specs.TextLaws.{length-refusal}
 use Rattle.report.proofs.render_refusal.Statement.{statement}
 use Rattle.report.proofs.render_refusal.Tie as tie
@@ -37,7 +37,7 @@ module _ (c : tie.Else1) where
 
 returns : tie.Need-returns
 unfolding printed-refusal
-returns c = rw (lt-leb _ _ (c .if1 .taken)) (nothing (now (c .before .before .args .out)))
+returns c = rw (lt-leb _ _ (c .if1 .taken)) (wrote-none 0)
 
 write-labelled-requires : tie.Need-write-labelled-requires
 write-labelled-requires c κs = room-here (room (c .before .before))
@@ -53,7 +53,7 @@ returns-2 c =
     let l = c .before .before .before .before .before .before .before in
     let i = l .before .before .before in
     let w = wrote-first (room i) (l .write-labelled .ensures) (wrote-last (c .before .before .write-bytes .ensures)) in
-    rw (le-leb _ _ (i .if1 .left)) (from-front (w .whole))
+    rw (le-leb _ _ (i .if1 .left)) (w .whole)
 
 pub render-refusal-spec : {M : Type 1} → statement M
 render-refusal-spec =

@@ -8,12 +8,12 @@ use lib.Dec.{lit<}
 use lib.ListN.{length}
 use denote.Ref.{now}
 use borrow.Author.Needs.{needs}
-use Rattle.decimal.specs.Buffer.{ascii, Room, Wrote}
-use Rattle.decimal.specs.BufferLaws.{Rooms, room-here, room-after, wrote-first, wrote-last}
+use Rattle.buffer.specs.Buffer.{Room, Wrote}
+use Rattle.buffer.specs.WroteLaws.{Rooms, room-here, room-after, wrote-first, wrote-last}
 use mir.Syntax.{w32, w64}
 use mir.Val.{SFits}
 use mir.Facts.{toZ-ofZ, sfits-widen}
-use Rattle.decimal.specs.Decimal.{fixed-point}
+use Rattle.decimal.specs.Decimal.{fixed-point, ascii}
 use Rattle.report.specs.Text.{labelled, answer-line, line-feed, answer-room}
 use Rattle.report.specs.TextLaws.{length-answer-line}
 use Rattle.integers.specs.Size.{size-sfits}

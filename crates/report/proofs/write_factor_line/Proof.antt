@@ -8,8 +8,8 @@ use lib.Dec.{lit≤}
 use lib.ListN.{length}
 use denote.Ref.{now}
 use borrow.Author.Needs.{needs}
-use Rattle.decimal.specs.Buffer.{Room}
-use Rattle.decimal.specs.BufferLaws.{Rooms, room-here, room-after, wrote-first, wrote-last}
+use Rattle.buffer.specs.Buffer.{Room}
+use Rattle.buffer.specs.WroteLaws.{Rooms, room-here, room-after, wrote-first, wrote-last}
 use Rattle.report.specs.Text.{labelled, factor-word, factor-line, line-feed, factor-room}
 use Rattle.report.specs.TextLaws.{length-factor-line}
 use Rattle.report.proofs.write_factor_line.Statement.{statement}

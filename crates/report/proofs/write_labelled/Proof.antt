@@ -2,7 +2,7 @@
 -- Assumes nothing.
 use native.Mathlib.Omega.{arith}
 use borrow.Author.Needs.{needs}
-use Rattle.decimal.specs.BufferLaws.{room-front, room-next, wrote-then}
+use Rattle.buffer.specs.WroteLaws.{room-front, room-next, wrote-then}
 use Rattle.decimal.specs.Decimal.{digits}
 use Rattle.report.proofs.write_labelled.Statement.{statement}
 use Rattle.report.proofs.write_labelled.Tie as tie

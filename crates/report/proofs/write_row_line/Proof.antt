@@ -8,11 +8,11 @@ use lib.Dec.{lit≤, lit<}
 use lib.ListN.{length}
 use denote.Ref.{now}
 use borrow.Author.Needs.{needs}
-use Rattle.decimal.specs.Buffer.{ascii, Room, Wrote}
-use Rattle.decimal.specs.BufferLaws.{Rooms, room-here, room-after, wrote-first, wrote-last}
+use Rattle.buffer.specs.Buffer.{Room, Wrote}
+use Rattle.buffer.specs.WroteLaws.{Rooms, room-here, room-after, wrote-first, wrote-last}
 use mir.Syntax.{w64}
 use mir.Facts.{toZ-ofZ}
-use Rattle.decimal.specs.Decimal.{signed}
+use Rattle.decimal.specs.Decimal.{signed, ascii}
 use Rattle.report.specs.Text.{labelled, row-line, line-feed, row-room}
 use Rattle.report.specs.TextLaws.{length-row-line}
 use Rattle.integers.specs.Size.{size-sfits}

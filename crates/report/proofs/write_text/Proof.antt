@@ -5,7 +5,7 @@ use native.Mathlib.Omega.{arith}
 use lib.ListN.{length}
 use borrow.Author.Needs.{needs}
 use Rattle.limits.specs.Limits.{mostTanks}
-use Rattle.decimal.specs.BufferLaws.{wrote-then, wrote-last}
+use Rattle.buffer.specs.WroteLaws.{wrote-then, wrote-last}
 use Rattle.report.specs.Text.{text, answer-room, row-room, factor-room}
 use Rattle.report.proofs.write_text.Statement.{statement}
 use Rattle.report.proofs.write_text.Tie as tie

@@ -8,8 +8,9 @@ use lib.Dec.{lit≤}
 use lib.ListN.{length}
 use denote.Ref.{now}
 use borrow.Author.Needs.{needs}
-use Rattle.decimal.specs.Buffer.{ascii, Room}
-use Rattle.decimal.specs.BufferLaws.{Rooms, room-here, room-after, wrote-first, wrote-last}
+use Rattle.decimal.specs.Decimal.{ascii}
+use Rattle.buffer.specs.Buffer.{Room}
+use Rattle.buffer.specs.WroteLaws.{Rooms, room-here, room-after, wrote-first, wrote-last}
 use Rattle.report.specs.Text.{labelled, verdict-word, verdict-line, line-feed, verdict-room}
 use Rattle.report.specs.TextLaws.{length-verdict-line}
 use Rattle.report.proofs.write_verdict_line.Statement.{statement}

@@ -8,7 +8,8 @@ use lib.ListN.{length, drop}
 use lib.Seq.{drop-drop}
 use lib.IntN.{ℤ}
 use denote.Ref.{now}
-use Rattle.figures.specs.Figures.{Kind, u16, i32, u32, within, upTo, figures, all, RunAnswered}
+use Rattle.buffer.specs.Buffer.{all}
+use Rattle.figures.specs.Figures.{Kind, u16, i32, u32, within, upTo, figures, RunAnswered}
 use Rattle.figures.specs.LoopLaws.{no}
 use Rattle.limits.specs.Limits.{coefficientLimit, toleranceLimit, rightSideLimit, rightToleranceLimit}
 use Rattle.rows.specs.Block.{Block, block}

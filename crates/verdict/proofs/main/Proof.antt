@@ -4,13 +4,13 @@ use mathlib.Core.List.{List}
 use Prim.Native.Nat.{ℕ, _≤_}
 use native.Mathlib.Omega.{arith}
 use lib.ListN.{length, drop, length-append, length-take}
-use Rattle.report.specs.Text.{Printed}
+use Rattle.buffer.specs.Buffer.{Wrote}
 use borrow.Author.Needs.{needs}
 use Rattle.verdict.proofs.main.Statement.{statement}
 use Rattle.verdict.proofs.main.Tie as tie
 
-inside : (t before after : List ℕ) (count : ℕ) → Printed t before count after → count ≤ length after
-inside t before after count p = omega (arith, p .size, ap length (p .bytes), length-append t (drop (length t) before))
+inside : (t before after : List ℕ) (count : ℕ) → Wrote t 0 before count after → count ≤ length after
+inside t before after count p = omega (arith, p .place, ap length (p .bytes), length-append t (drop (length t) before))
 
 array-share-prefix-text : tie.Need-array-share-prefix-text
 array-share-prefix-text c = inside _ _ _ _ (c .before .verdict-text .ensures)

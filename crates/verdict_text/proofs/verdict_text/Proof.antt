@@ -3,7 +3,7 @@ use mathlib.Core.Path.{subst}
 use denote.Ref.{now}
 use lib.ListN.{length}
 use Rattle.casefile.specs.Decode.{decode}
-use Rattle.report.specs.Text.{Printed}
+use Rattle.buffer.specs.Buffer.{Wrote}
 use Rattle.ballast.specs.Call.{answer-of}
 use Rattle.verdict_text.specs.Verdict.{verdict-refused, verdict-accepted}
 use borrow.Author.Needs.{needs}
@@ -13,7 +13,7 @@ use Rattle.verdict_text.proofs.verdict_text.Tie as tie
 returns : tie.Need-returns
 returns c =
     let a = c .before .before .before .before .before .before .before .before .before .before .before .args in
-    subst (λ t. Printed t (now (a .out)) (c .before .before .render-refusal .result) (c .before .before .render-refusal .last .1 .0))
+    subst (λ t. Wrote t 0 (now (a .out)) (c .before .before .render-refusal .result) (c .before .before .render-refusal .last .1 .0))
     (verdict-refused (length (now (a .out))) _ (answer-of (decode (now (a .input)))) (c .before .before .before .before .before .before .before .before .answer-case .ensures) _ _ (c .before .before .before .before .before .before .status .given .1) (c .before .before .before .before .number .ensures))
     (c .before .before .render-refusal .ensures)
 
@@ -23,7 +23,7 @@ enum-told c = search needs
 returns-2 : tie.Need-returns-2
 returns-2 c =
     let a = c .before .before .before .before .before .before .before .before .before .before .before .before .args in
-    subst (λ t. Printed t (now (a .out)) (c .before .before .render .result) (c .before .before .render .last .1 .1 .1 .1 .1 .0))
+    subst (λ t. Wrote t 0 (now (a .out)) (c .before .before .render .result) (c .before .before .render .last .1 .1 .1 .1 .1 .0))
     (verdict-accepted (length (now (a .out))) _ (answer-of (decode (now (a .input)))) (c .before .before .before .before .before .before .before .before .before .answer-case .ensures) (c .before .before .before .before .before .before .before .enum-told .given .1))
     (c .before .before .render .ensures)
 

@@ -1,0 +1,36 @@
+-- Tests of every element of a list: of its parts, of two lists put together, and at every place. Assumes nothing.
+use mathlib.Core.Path.{_≡_, refl}
+use mathlib.Core.List.{List, [], _∷_, _++_}
+use mathlib.Core.Bool.{Bool, true, false, false≢true, _&&_}
+use Prim.Native.Nat.{ℕ, zero, suc}
+use lib.ListN.{getD, take, drop}
+use Rattle.buffer.specs.Buffer.{all}
+
+pub and-true : (a b : Bool) → (a && b) ≡ true → (a ≡ true) × (b ≡ true)
+and-true true b e = (refl, e)
+and-true false b e = absurd (false≢true e)
+
+module _ {X : Type 0} (p : X → Bool) where
+  pub all-append : (a b : List X) → all p a ≡ true → all p b ≡ true → all p (a ++ b) ≡ true
+  unfolding all
+  all-append [] b e g = g
+  all-append (x ∷ a) b e g = let w = and-true (p x) (all p a) e in rw (w .0, all-append a b (w .1) g)
+
+  pub all-take : (n : ℕ) (l : List X) → all p l ≡ true → all p (take n l) ≡ true
+  unfolding all
+  all-take zero l e = refl
+  all-take (suc n) [] e = refl
+  all-take (suc n) (x ∷ l) e = let w = and-true (p x) (all p l) e in rw (w .0, all-take n l (w .1))
+
+  pub all-drop : (n : ℕ) (l : List X) → all p l ≡ true → all p (drop n l) ≡ true
+  unfolding all
+  all-drop zero l e = e
+  all-drop (suc n) [] e = refl
+  all-drop (suc n) (x ∷ l) e = all-drop n l (and-true (p x) (all p l) e .1)
+
+  -- at every place, past the end too
+  pub all-at : (d : X) → p d ≡ true → (l : List X) → all p l ≡ true → (i : ℕ) → p (getD l i d) ≡ true
+  unfolding all
+  all-at d e [] h i = e
+  all-at d e (x ∷ l) h zero = and-true (p x) (all p l) h .0
+  all-at d e (x ∷ l) h (suc i) = all-at d e l (and-true (p x) (all p l) h .1) i
