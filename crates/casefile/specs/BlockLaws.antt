@@ -11,7 +11,7 @@ use lib.Seq.{take-at, drop-at, drop-drop}
 use lib.IntN.{ℤ}
 use Rattle.buffer.specs.Buffer.{onto, all}
 use Rattle.buffer.specs.Laws.{take-onto, holds}
-use Rattle.figures.specs.Figures.{upTo, within}
+use Rattle.figures.specs.Figures.{upTo, within, allUpTo, allWithin}
 use Rattle.buffer.specs.AllLaws.{and-true, all-append, all-take, all-drop}
 use Rattle.limits.specs.Limits.{coefficientLimit, toleranceLimit, rightSideLimit, rightToleranceLimit}
 use Rattle.rows.specs.Block.{Block, Counts, Holds, RowsRoom, each, front, behind, paired, stacked, over, split, together}
@@ -59,9 +59,9 @@ sound-fine s = rw (s .a .fine, s .t .fine, s .b .fine, s .f .fine)
 pub sound : {k m : ℕ} {r : Block} → Counts k m r → rowsFine r ≡ true → SoundBlock k m r
 unfolding rowsFine
 sound {r} c h =
-    let w1 = and-true (all (within coefficientLimit) (r .coefficients)) _ h in
-    let w2 = and-true (all (upTo toleranceLimit) (r .tolerances)) _ (w1 .1) in
-    let w3 = and-true (all (within rightSideLimit) (r .right-sides)) _ (w2 .1) in
+    let w1 = and-true (allWithin coefficientLimit (r .coefficients)) _ h in
+    let w2 = and-true (allUpTo toleranceLimit (r .tolerances)) _ (w1 .1) in
+    let w3 = and-true (allWithin rightSideLimit (r .right-sides)) _ (w2 .1) in
     record {
       a = record { count = c .la; fine = w1 .0 };
       t = record { count = c .lt; fine = w2 .0 };
@@ -131,8 +131,8 @@ module _ (n : ℕ) where
     sound-behind = sound-each (λ X. drop) n 1 r (λ X p l h. behind-sound n (m * n) (more m) h) (λ X p l h. behind-sound 1 m (one-more m) h) s
 
   -- row i of a block
-  abbrev pub rowAt : Block → ℕ → Block
-  rowAt r i = front n 1 (behind (i * n) i r)
+  abbrev pub rowIn : Block → ℕ → Block
+  rowIn r i = front n 1 (behind (i * n) i r)
 
   behind-more : (i : ℕ) (r : Block) → behind (i * n) i (behind n 1 r) ≡ behind (suc i * n) (suc i) r
   behind-more i r =
@@ -145,7 +145,7 @@ module _ (n : ℕ) where
         one-more i,
       )
 
-  pub split-at : (m : ℕ) (r : Block) (i : ℕ) (d : Block) → i < m → getD (split n m r) i d ≡ rowAt r i
+  pub split-at : (m : ℕ) (r : Block) (i : ℕ) (d : Block) → i < m → getD (split n m r) i d ≡ rowIn r i
   unfolding split
   split-at zero r i d h = absurd (omega arith)
   split-at (suc m) r zero d h = rw (zero-mul n)

@@ -9,8 +9,7 @@ use Rattle.limits.specs.Limits.{mostTanks, mostExponent, mostRounds, coefficien
 use Rattle.outcome.specs.declared.Refusal.the-variants.{WrongLength, OutsideLimits}
 use Rattle.outcome.specs.declared.Status.{Status}
 use Rattle.outcome.specs.Outcome.{check, first}
-use Rattle.buffer.specs.Buffer.{all}
-use Rattle.figures.specs.Figures.{upTo, within}
+use Rattle.figures.specs.Figures.{allUpTo, allWithin}
 use Rattle.rows.specs.Block.{Block, block}
 
 -- document 01's n, e and K (rounds, its own term), its rows, and its trial Y
@@ -58,12 +57,12 @@ counted c =
 -- A, E, b and f within their limits
 unfoldable pub rowsFine : Block → Bool
 rowsFine r =
-    all (within coefficientLimit) (r .coefficients)
-    && (all (upTo toleranceLimit) (r .tolerances)
-    && (all (within rightSideLimit) (r .right-sides) && all (upTo rightToleranceLimit) (r .right-tolerances)))
+    allWithin coefficientLimit (r .coefficients)
+    && (allUpTo toleranceLimit (r .tolerances)
+    && (allWithin rightSideLimit (r .right-sides) && allUpTo rightToleranceLimit (r .right-tolerances)))
 
 unfoldable pub figuresFine : Case → Bool
-figuresFine c = rowsFine (c .rows) && all (within trialLimit) (c .trial)
+figuresFine c = rowsFine (c .rows) && allWithin trialLimit (c .trial)
 
 -- "then with 6 an n, e or K outside its limits; then with 4 a list whose count is not the one due ..; then with 6 any other figure outside its limits"
 unfoldable pub caseStatus : Case → Status

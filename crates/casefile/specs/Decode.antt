@@ -11,8 +11,8 @@ use Rattle.outcome.specs.declared.Refusal.the-variants.{OutsideLimits, Trailing
 use Rattle.outcome.specs.declared.Status.{Status}
 use Rattle.outcome.specs.declared.Status.the-variants.{Accepted, Refused}
 use Rattle.outcome.specs.Outcome.{check, first}
-use Rattle.buffer.specs.Buffer.{onto, all}
-use Rattle.figures.specs.Figures.{i16, u16, i32, u32, within, items, figures, after, spread}
+use Rattle.buffer.specs.Buffer.{onto}
+use Rattle.figures.specs.Figures.{i16, u16, i32, u32, allWithin, items, figures, after, spread}
 use Rattle.fields.specs.Field.{endTag, endLength, endSize, valueOf, afterField, fieldStatus}
 use Rattle.limits.specs.Limits.{mostTanks, mostCoefficients, trialLimit}
 use Rattle.rows.specs.Block.{Block, block, over, together}
@@ -99,7 +99,7 @@ abbrev pub trialAt : ℕ → List ℕ → List ℤ
 trialAt n s = figures trialKind n (valueOf s)
 
 abbrev pub trialDue : ℕ → Due (List ℤ)
-trialDue n = record { tag = trialTag; len = trialLength n; read = figures trialKind n; fine = all (within trialLimit); write = spread trialKind }
+trialDue n = record { tag = trialTag; len = trialLength n; read = figures trialKind n; fine = allWithin trialLimit; write = spread trialKind }
 
 unfoldable pub trialStatus : ℕ → ℕ → List ℕ → Status
 trialStatus k n s = whereBrought k (dueStatus (trialDue n) s) Accepted

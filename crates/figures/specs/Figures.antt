@@ -50,6 +50,13 @@ upTo limit x = leb x limit
 abbrev pub within : ℕ → ℤ → Bool
 within limit z = upTo limit (natAbs z)
 
+-- of every figure of a list
+abbrev pub allUpTo : ℕ → List ℕ → Bool
+allUpTo limit l = all (upTo limit) l
+
+abbrev pub allWithin : ℕ → List ℤ → Bool
+allWithin limit l = all (within limit) l
+
 -- n items of a width, one after another from the front of v
 unfoldable pub items : {A : Type 0} → ℕ → (List ℕ → A) → ℕ → List ℕ → List A
 items w item zero v = []

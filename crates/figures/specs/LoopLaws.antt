@@ -20,8 +20,8 @@ use Rattle.buffer.specs.Buffer.{onto, run, all}
 use Rattle.buffer.specs.RunLaws.{joined-run, Running, run-ended}
 use Rattle.figures.specs.Figures.{Kind, within, items, figureAt, figures, figureBytes, spread, Read}
 
-pub no : {P : Type 0} → false ≡ true → P
-no e = absurd (false≢true e)
+pub impossible : {P : Type 0} → false ≡ true → P
+impossible e = absurd (false≢true e)
 
 -- the test of a signed figure of a width, made in 64 bits
 pub tested : (w : Width) → T (leb (hbits w) (hbits w64)) → (z : ℤ) → mag z < 2 ^ hbits w → (limit : ℕ) {r b : Bool}
@@ -87,7 +87,7 @@ module _ {X : Type 0} {k : Kind X} {f : X → Bool} {s : List ℕ} {at : ℕ} {o
     -- the next figure is x: refused, or set
     pub read-stopped : {exit : List X} {x : X} → i < length out → x ≡ figureAt k (drop p s) → f x ≡ false → Read k f (drop at s) out₀ false exit
     unfolding all items
-    read-stopped h e t = record { status = stopped (r .read) (omega (arith, r .same)) (λ m. rw (← e, t)); made = λ e. no e }
+    read-stopped h e t = record { status = stopped (r .read) (omega (arith, r .same)) (λ m. rw (← e, t)); made = λ e. impossible e }
 
     pub read-turn : {x : X} → i < length out → x ≡ figureAt k (drop p s) → f x ≡ true → ReadingFigures k f s at out₀ (set out i x) (i + 1) (p + k .width)
     unfolding all items

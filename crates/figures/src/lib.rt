@@ -3,8 +3,8 @@
 ghost use mathlib.Core.Path.{_≡_};
 ghost use Prim.Native.Nat.{_+_, _*_, _≤_};
 ghost use lib.ListN.{length, drop};
-ghost use Rattle.buffer.specs.Buffer.{onto, all};
-ghost use Rattle.figures.specs.Figures.{i16, u16, i32, u32, upTo, within as fits, spread, Read};
+ghost use Rattle.buffer.specs.Buffer.{onto};
+ghost use Rattle.figures.specs.Figures.{i16, u16, i32, u32, upTo, within as fits, allUpTo, allWithin, spread, Read};
 use bigendian::SIZE_16;
 use bigendian::SIZE_32;
 
@@ -92,7 +92,7 @@ pub fn read_u32s(s: &[u8], at: usize, limit: u64, out: &mut [u32]) -> bool
 // Testing: whether every figure of the list is within the limit.
 
 pub fn all_i16(a: &[i16], limit: u64) -> bool
-    ensures { λ r. ⌜ r ≡ all (fits limit) (now (a .entry)) ⌝ }
+    ensures { λ r. ⌜ r ≡ allWithin limit (now (a .entry)) ⌝ }
 {
     let mut i = 0;
     while i < a.len() {
@@ -105,7 +105,7 @@ pub fn all_i16(a: &[i16], limit: u64) -> bool
 }
 
 pub fn all_u16(a: &[u16], limit: u64) -> bool
-    ensures { λ r. ⌜ r ≡ all (upTo limit) (now (a .entry)) ⌝ }
+    ensures { λ r. ⌜ r ≡ allUpTo limit (now (a .entry)) ⌝ }
 {
     let mut i = 0;
     while i < a.len() {
@@ -118,7 +118,7 @@ pub fn all_u16(a: &[u16], limit: u64) -> bool
 }
 
 pub fn all_i32(a: &[i32], limit: u64) -> bool
-    ensures { λ r. ⌜ r ≡ all (fits limit) (now (a .entry)) ⌝ }
+    ensures { λ r. ⌜ r ≡ allWithin limit (now (a .entry)) ⌝ }
 {
     let mut i = 0;
     while i < a.len() {
@@ -131,7 +131,7 @@ pub fn all_i32(a: &[i32], limit: u64) -> bool
 }
 
 pub fn all_u32(a: &[u32], limit: u64) -> bool
-    ensures { λ r. ⌜ r ≡ all (upTo limit) (now (a .entry)) ⌝ }
+    ensures { λ r. ⌜ r ≡ allUpTo limit (now (a .entry)) ⌝ }
 {
     let mut i = 0;
     while i < a.len() {

@@ -3,8 +3,7 @@
 use mathlib.Core.Path.{_≡_, sym, _∙_}
 use mathlib.Core.Bool.{true}
 use denote.Ref.{now}
-use Rattle.buffer.specs.Buffer.{all}
-use Rattle.figures.specs.Figures.{within, upTo}
+use Rattle.figures.specs.Figures.{allUpTo, allWithin}
 use Rattle.limits.specs.Limits.{coefficientLimit, toleranceLimit, rightSideLimit, rightToleranceLimit}
 use Rattle.casefile.specs.Case.{rowsFine, figuresFine}
 use borrow.Author.Needs.{needs}
@@ -16,37 +15,37 @@ module _ (c : tie.After-all-i16) where
   abbrev start : tie.Start
   start = c .before .before .before
 
-  coefficients-are : c .all-i16 .result ≡ all (within coefficientLimit) (now (start .args .a))
+  coefficients-are : c .all-i16 .result ≡ allWithin coefficientLimit (now (start .args .a))
   coefficients-are = c .all-i16 .ensures
 
 module _ (c : tie.After-all-u16) where
   abbrev first : tie.After-all-i16
   first = c .before .before
 
-  coefficients-fine : all (within coefficientLimit) (now (start first .args .a)) ≡ true
+  coefficients-fine : allWithin coefficientLimit (now (start first .args .a)) ≡ true
   coefficients-fine = sym (coefficients-are first) ∙ c .before .if1 .taken
 
-  tolerances-are : c .all-u16 .result ≡ all (upTo toleranceLimit) (now (start first .args .t))
+  tolerances-are : c .all-u16 .result ≡ allUpTo toleranceLimit (now (start first .args .t))
   tolerances-are = c .all-u16 .ensures
 
 module _ (c : tie.After-all-i32) where
   abbrev second : tie.After-all-u16
   second = c .before .before
 
-  tolerances-fine : all (upTo toleranceLimit) (now (start (first second) .args .t)) ≡ true
+  tolerances-fine : allUpTo toleranceLimit (now (start (first second) .args .t)) ≡ true
   tolerances-fine = sym (tolerances-are second) ∙ c .before .if2 .taken
 
-  right-sides-are : c .all-i32 .result ≡ all (within rightSideLimit) (now (start (first second) .args .b))
+  right-sides-are : c .all-i32 .result ≡ allWithin rightSideLimit (now (start (first second) .args .b))
   right-sides-are = c .all-i32 .ensures
 
 module _ (c : tie.After-all-u32) where
   abbrev third : tie.After-all-i32
   third = c .before .before
 
-  right-sides-fine : all (within rightSideLimit) (now (start (first (second third)) .args .b)) ≡ true
+  right-sides-fine : allWithin rightSideLimit (now (start (first (second third)) .args .b)) ≡ true
   right-sides-fine = sym (right-sides-are third) ∙ c .before .if3 .taken
 
-  right-tolerances-are : c .all-u32 .result ≡ all (upTo rightToleranceLimit) (now (start (first (second third)) .args .f))
+  right-tolerances-are : c .all-u32 .result ≡ allUpTo rightToleranceLimit (now (start (first (second third)) .args .f))
   right-tolerances-are = c .all-u32 .ensures
 
 returns : tie.Need-returns

@@ -8,9 +8,8 @@ use lib.ListN.{length, drop}
 use lib.Seq.{drop-drop}
 use lib.IntN.{ℤ}
 use denote.Ref.{now}
-use Rattle.buffer.specs.Buffer.{all}
-use Rattle.figures.specs.Figures.{Kind, u16, i32, u32, within, upTo, figures, RunAnswered}
-use Rattle.figures.specs.LoopLaws.{no}
+use Rattle.figures.specs.Figures.{Kind, u16, i32, u32, within, upTo, figures, RunAnswered, allUpTo, allWithin}
+use Rattle.figures.specs.LoopLaws.{impossible}
 use Rattle.limits.specs.Limits.{coefficientLimit, toleranceLimit, rightSideLimit, rightToleranceLimit}
 use Rattle.rows.specs.Block.{Block, block}
 use Rattle.casefile.specs.Case.{rowsFine}
@@ -23,10 +22,10 @@ use Rattle.row_reader.proofs.read_figures.Tie as tie
 
 module _ (n : ℕ) (v : List ℕ) where
   fine-is : {b1 b2 b3 b4 : Bool}
-      → b1 ≡ all (within coefficientLimit) (rowOf n v .coefficients)
-      → b2 ≡ all (upTo toleranceLimit) (rowOf n v .tolerances)
-      → b3 ≡ all (within rightSideLimit) (rowOf n v .right-sides)
-      → b4 ≡ all (upTo rightToleranceLimit) (rowOf n v .right-tolerances)
+      → b1 ≡ allWithin coefficientLimit (rowOf n v .coefficients)
+      → b2 ≡ allUpTo toleranceLimit (rowOf n v .tolerances)
+      → b3 ≡ allWithin rightSideLimit (rowOf n v .right-sides)
+      → b4 ≡ allUpTo rightToleranceLimit (rowOf n v .right-tolerances)
       → (b1 && (b2 && (b3 && b4))) ≡ rowsFine (rowOf n v)
   unfolding rowsFine
   fine-is e1 e2 e3 e4 = rw (e1, e2, e3, e4)
@@ -132,7 +131,7 @@ returns-2 c =
       status =
           fine-is _ _ (sym (first-passed v) ∙ coefficients (first v) .status) (sym (second-passed w) ∙ tolerances v .status)
           (sym (c .if3 .left) ∙ right-side w .status) refl;
-      made = λ e. no e;
+      made = λ e. impossible e;
     })
 
 returns-3 : tie.Need-returns-3
@@ -141,13 +140,13 @@ returns-3 c =
     rw (c .if2 .left)
     (record {
       status = fine-is _ _ (sym (first-passed w) ∙ coefficients (first w) .status) (sym (c .if2 .left) ∙ tolerances w .status) refl refl;
-      made = λ e. no e;
+      made = λ e. impossible e;
     })
 
 returns-4 : tie.Need-returns-4
 returns-4 c =
     let w = c .before .before in
-    rw (c .if1 .left) (record { status = fine-is _ _ (sym (c .if1 .left) ∙ coefficients w .status) refl refl refl; made = λ e. no e })
+    rw (c .if1 .left) (record { status = fine-is _ _ (sym (c .if1 .left) ∙ coefficients w .status) refl refl refl; made = λ e. impossible e })
 
 pub read-figures-spec : {M : Type 1} → statement M
 read-figures-spec =
