@@ -15,7 +15,7 @@ use Rattle.outcome.specs.declared.Status.the-variants.{Accepted}
 use Rattle.ballast.specs.declared.Answer.{Answer as FileAnswer}
 use Rattle.outcome.specs.declared.Outcome.the-variants.{Count}
 use Rattle.casefile.specs.Case.{Case}
-use Rattle.casefile.specs.CaseLaws.{Good, good, decode-fine}
+use Rattle.casefile.specs.CaseLaws.{Good, decode-good}
 use Rattle.casefile.specs.Decode.{decode, stored}
 use Rattle.outcome.specs.Outcome.{said}
 use Rattle.casefile.specs.Write.{inRoom, leaves}
@@ -127,7 +127,7 @@ module _ (input out : List ℕ) (m : ℕ) (e : call input out .outcome ≡ said 
   from = answering (decode input) (in-room longestRecord (x .status) (length out) (counted .accepted) .1)
 
   fine : Good (from .figures)
-  fine = good (from .figures) (decode-fine input (from .figures) (from .decoded))
+  fine = decode-good input (from .figures) (from .decoded)
 
   -- no count is above the longest record
   pub count-le : m ≤ longestRecord
@@ -194,4 +194,4 @@ pub answer-recordable : (input : List ℕ) (x : FileAnswer) (room : ℕ) → x �
 unfolding answer-of stored
 answer-recordable input x room q t h =
     let k = answering (decode input) (ap (λ y. y .status) (sym q) ∙ t) in
-    rw (q, k .decoded) (recordable (k .figures) (good (k .figures) (decode-fine input (k .figures) (k .decoded))) room h (k .answered))
+    rw (q, k .decoded) (recordable (k .figures) (decode-good input (k .figures) (k .decoded)) room h (k .answered))

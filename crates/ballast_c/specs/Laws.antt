@@ -19,7 +19,7 @@ use Rattle.casefile.specs.declared.Case.{Case}
 use Rattle.casefile.specs.Case.{Case as Figures}
 use Rattle.casefile.specs.Decode.{Decoded, refused, decode, stored}
 use Rattle.casefile.specs.StoredLaws.{Whole}
-use Rattle.casefile.specs.CaseLaws.{good, decode-fine}
+use Rattle.casefile.specs.CaseLaws.{decode-good}
 use Rattle.casefile.specs.Write.{leaves, write}
 use Rattle.casefile.specs.WriteLaws.{filed-short, filed-whole, count-le as case-count-le}
 use Rattle.report.specs.Text.{text-room}
@@ -50,7 +50,7 @@ tanks-accepted d c w = rw (w .held, w .decoded)
 
 pub few-tanks : (input : List ℕ) (c : Case) → Whole (decode input) c → c .n ≤ text-room
 unfolding stored
-few-tanks input c w = rw (w .held) (omega (arith, good (w .figures) (decode-fine input (w .figures) (w .decoded)) .limits .small))
+few-tanks input c w = rw (w .held) (omega (arith, decode-good input (w .figures) (w .decoded) .limits .small))
 
 -- ---- judging
 

@@ -1,9 +1,13 @@
 -- Big-endian numbers of a stated count of bytes; the highest number and the bytes of a width.
 use Prim.Native.Nat.{ℕ, zero, suc, _+_, _*_, _-_, _/_, _%_, _^_}
+use mathlib.Core.Bool.{Bool, true}
+use mathlib.Core.Path.{_≡_}
 use mathlib.Core.List.{List, [], _∷_}
+use lib.Dec.{ltb}
 use lib.ListN.{length}
 use mir.Syntax.{Width}
 use mir.Val.{bits, bytes as bytesOf}
+use Rattle.buffer.specs.Buffer.{all}
 
 -- document 01: "Numbers are big-endian". The number that the bytes s are, the highest first
 unfoldable pub be : List ℕ → ℕ
@@ -14,6 +18,13 @@ be (x ∷ s) = x * 256 ^ length s + be s
 unfoldable pub bytes : ℕ → ℕ → List ℕ
 bytes zero x = []
 bytes (suc w) x = x / 256 ^ w ∷ bytes w (x % 256 ^ w)
+
+-- a list whose elements are bytes
+abbrev pub byte : ℕ → Bool
+byte x = ltb x 256
+
+pub record Bytes (s : List ℕ) : Type 0 where
+  pub each : all byte s ≡ true
 
 -- the highest number of a width
 abbrev pub highest : Width → ℕ

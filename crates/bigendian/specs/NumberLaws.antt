@@ -1,28 +1,20 @@
 -- The laws of numbers of w bytes, once for every w: decode of encode, encode of decode, and a number in two parts. Assumes nothing.
 use mathlib.Core.Path.{_≡_, refl, sym, ap}
 use Prim.Native.Nat.{ℕ, zero, suc, _+_, _*_, _/_, _%_, _^_, _≤_, _<_}
-use mathlib.Core.Bool.{Bool, true}
 use mathlib.Core.List.{List, [], _∷_, _++_}
 use lib.ListN.{length, take, drop, getD, length-append, length-take, length-drop}
 use lib.Arith.{digits-lt, digits-div, digits-mod, lt-one}
 use lib.Seq.{length-take-le, drop-cons, drop-drop, take-add}
 use native.Mathlib.Nat.{div-lt-iff-lt-mul, mod-lt, div-add-mod', zero-add, pow-suc, mul-comm, one-le-pow, zero-mul, mul-assoc, add-mul, add-assoc}
 use native.Mathlib.Omega.{arith}
-use lib.Dec.{lit<, lit≤, ltb}
+use lib.Dec.{lit<, lit≤}
 use borrow.Author.Tests.{lt-ltb, ltb-true}
 use lib.Pow.{pow-add}
 use Rattle.buffer.specs.Buffer.{onto, all}
 use Rattle.buffer.specs.AllLaws.{and-true, all-append, all-take, all-drop}
 use Rattle.buffer.specs.Laws.{part, put}
 use Rattle.buffer.specs.WroteLaws.{wrote-two}
-use Rattle.bigendian.specs.Number.{be, bytes}
-
--- every element is a byte
-abbrev byte : ℕ → Bool
-byte x = ltb x 256
-
-pub record Bytes (s : List ℕ) : Type 0 where
-  each : all byte s ≡ true
+use Rattle.bigendian.specs.Number.{be, bytes, byte, Bytes}
 
 none : Bytes []
 unfolding all

@@ -7,10 +7,10 @@ use native.Mathlib.Numerals.{add-one}
 use native.Mathlib.Decide.{ℕ-discrete}
 use native.Mathlib.Omega.{arith}
 use lib.ListN.{length, getD, take, drop, length-append}
-use lib.Seq.{take-suc, drop-at}
-use Rattle.buffer.specs.Buffer.{onto, Wrote, run, joined}
-use Rattle.buffer.specs.Laws.{part, put, put-is}
-use Rattle.buffer.specs.WroteLaws.{wrote-then, wrote-none, wrote-same}
+use lib.Seq.{take-suc, take-all, drop-at}
+use Rattle.buffer.specs.Buffer.{onto, Wrote, run, joined, concat}
+use Rattle.buffer.specs.Laws.{part, put}
+use Rattle.buffer.specs.WroteLaws.{wrote-then, wrote-none, wrote-same, wrote-lent}
 
 -- ---- lengths and places
 
@@ -39,9 +39,9 @@ module _ {X : Type 0} (w : ℕ) (piece : ℕ → List X) (each : (i : ℕ) → l
           }
       go (no f) r = rw append-assoc (r (omega arith))
 
-pub joined-map : {A X : Type 0} (g : A → List X) (xs : List A) → joined (λ l. l) (map g xs) ≡ joined g xs
-joined-map g [] = refl
-joined-map g (x ∷ xs) = rw (joined-map g xs)
+pub concat-map : {A X : Type 0} (g : A → List X) (xs : List A) → concat (map g xs) ≡ joined g xs
+concat-map g [] = refl
+concat-map g (x ∷ xs) = rw (concat-map g xs)
 
 -- a list's elements one by one
 pub joined-each : {X : Type 0} (l : List X) → joined (λ x. x ∷ []) l ≡ l
@@ -95,7 +95,12 @@ module _ {w : ℕ} {piece : ℕ → List ℕ} {n at : ℕ} {out₀ : List ℕ} w
     -- a piece of w bytes, over the front of the part that is left
     pub run-turn-lent : {ys : List ℕ} → i < n → length (piece i) ≡ w → ys ≡ onto (piece i) (part out next)
         → Running w piece n at out₀ (put out next ys) (i + 1) (next + w)
-    run-turn-lent h k e = run-turn h (omega arith) (record { place = omega arith; bytes = put-is out (piece i) next e })
+    run-turn-lent h k e = run-turn h (omega arith) (wrote-lent (piece i) out e (omega arith))
 
     pub run-ended : n ≤ i → Running w piece n at out₀ out n next
     run-ended h = let e : i ≡ n = omega (arith, r .count) in rw e at r
+
+-- where the pieces are those of a list's elements
+pub run-joined : {A : Type 0} (f : A → List ℕ) (d : A) (l : List A) {w n at : ℕ} {out₀ out : List ℕ} {i next : ℕ} → length l ≡ n
+    → Running w (λ j. f (getD l j d)) n at out₀ out i next → n ≤ i → Wrote (joined f l) at out₀ next out
+run-joined f d l {n = n} e r h = rw (← (joined-run f d l n (omega arith)), take-all n l (omega arith)) at (run-ended r h .wrote)

@@ -64,10 +64,14 @@ wrote-first {text} {texts} h v w =
 pub wrote-front : (b out₀ : List ℕ) {out : List ℕ} {next : ℕ} → out ≡ onto b out₀ → length b ≡ next → Wrote b 0 out₀ next out
 wrote-front b out₀ e l = record { place = sym l ∙ sym (zero-add (length b)); bytes = e }
 
--- b over the front of the part that begins where what is done ends
+-- b over the front of the part that begins at `at`
+pub wrote-lent : (b out : List ℕ) {ys : List ℕ} {at next : ℕ} → ys ≡ onto b (part out at) → at + length b ≡ next → Wrote b at out next (put out at ys)
+wrote-lent b out {at = at} e l = record { place = sym l; bytes = put-is out b at e }
+
+-- and where what is done ends there
 pub wrote-more : (b : List ℕ) (next : ℕ) {done out₀ out ys : List ℕ} {at : ℕ} → Wrote done 0 out₀ at out → ys ≡ onto b (part out at) → at + length b ≡ next
     → Wrote (done ++ b) 0 out₀ next (put out at ys)
-wrote-more b next {out = out} {at = at} w e l = wrote-then (omega arith) w (record { place = sym l; bytes = put-is out b at e })
+wrote-more b next {out = out} w e l = wrote-then (omega arith) w (wrote-lent b out e l)
 
 -- the two writes alone
 pub wrote-two : (a b out₀ : List ℕ) {out ys : List ℕ} {at : ℕ} → out ≡ onto a out₀ → length a ≡ at → ys ≡ onto b (part out at)

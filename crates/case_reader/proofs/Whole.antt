@@ -13,7 +13,7 @@ use Rattle.rows.specs.Block.{Block, over, together}
 use Rattle.casefile.specs.Case.{caseWith}
 use Rattle.casefile.specs.Layout.{rowsEnd}
 use Rattle.casefile.specs.Decode.{afterHead, headStatus, rowsStatus, rowsOf, trialOf, tailStatus, inputStatus, caseOf, refused, decode, padded, places, held, stored, reading}
-use Rattle.casefile.specs.CaseLaws.{head-parts}
+use Rattle.casefile.specs.CaseLaws.{head-limits}
 use Rattle.case_reader.specs.declared.Head.{Head}
 use Rattle.case_reader.specs.Read.{headOf, HeadFound}
 
@@ -40,7 +40,7 @@ module _ (s : List ℕ) (head : Head) (found : HeadFound s head) where
     head-is = found .made h
 
     pub small : n ≤ mostTanks
-    small = rw head-is (head-parts s accepted .limits .small)
+    small = rw head-is (head-limits s accepted .small)
 
     status-is : inputStatus s ≡ first (rowsStatus n n (afterHead s)) (tailStatus rounds n (drop (rowsEnd n) s))
     unfolding inputStatus

@@ -11,7 +11,7 @@ use Rattle.outcome.specs.Outcome.{said}
 use Rattle.outcome.specs.declared.Outcome.{Outcome}
 use Rattle.outcome.specs.declared.Outcome.the-variants.{Count, Refused as RefusedBy}
 use Rattle.buffer.specs.Laws.{take-onto, holds}
-use Rattle.bigendian.specs.NumberLaws.{Bytes}
+use Rattle.bigendian.specs.Number.{Bytes}
 use Rattle.rows.specs.Block.{RowsRoom, front}
 use Rattle.casefile.specs.declared.Case.{Case as Stored}
 use Rattle.casefile.specs.declared.Reading.{Reading}
@@ -19,10 +19,11 @@ use Rattle.limits.specs.Limits.{mostTanks, mostCoefficients}
 use Rattle.casefile.specs.Case.{Case, caseWith, trialCount}
 use Rattle.casefile.specs.Decode.{accepted, refused, decoded, decode, places, heldRows, stored, reading}
 use Rattle.casefile.specs.StoredLaws.{Whole}
-use Rattle.casefile.specs.BlockLaws.{counts, front-over, room-over}
+use Rattle.rows.specs.BlockLaws.{front-over, room-over}
+use Rattle.casefile.specs.SoundLaws.{counts}
 use Rattle.casefile.specs.RowsLaws.{square-fits}
 use Rattle.casefile.specs.TailLaws.{brought-most}
-use Rattle.casefile.specs.CaseLaws.{Good, good, decode-fine}
+use Rattle.casefile.specs.CaseLaws.{Good, decode-good}
 use Rattle.casefile.specs.Write.{writeStatus, write, leaves}
 use Rattle.casefile.specs.WriteLaws.{count-accepted, count-fits, written-read, refused-status, read-written}
 use Rattle.case_roundtrip.specs.Trip.{writtenAndRead, comesBack, writtenAgain}
@@ -65,7 +66,7 @@ module _ (s : List ℕ) (p : Stored) (w : Whole (decode s) p) where
   c = w .figures
 
   fine : Good c
-  fine = good c (decode-fine s c (w .decoded))
+  fine = decode-good s c (w .decoded)
 
   pub small : Small p
   unfolding stored

@@ -1,4 +1,4 @@
--- The whole case in the buffer: head, rows, trial and end, one behind the other, are its encoding.
+-- The trial in the buffer, and the whole case: head, rows, trial and end, one behind the other, are its encoding.
 -- Assumes nothing.
 use mathlib.Core.Path.{_≡_, sym, ap, _∙_}
 use mathlib.Core.List.{List, [], append-assoc, append-nil}

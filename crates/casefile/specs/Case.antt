@@ -30,7 +30,7 @@ given n exponent rounds a t b f y = caseWith n exponent rounds (block a t b f) y
 abbrev pub headFine : ℕ → ℕ → ℕ → Bool
 headFine n exponent rounds = leb 1 n && (leb n mostTanks && (leb exponent mostExponent && leb rounds mostRounds))
 
--- the same as what it says
+-- its four tests as inequalities
 pub record HeadSmall (n exponent rounds : ℕ) : Type 0 where
   pub least : 1 ≤ n
   pub small : n ≤ mostTanks

@@ -13,22 +13,23 @@ use Rattle.outcome.specs.declared.Refusal.the-variants.{WrongLength, OutsideLim
 use Rattle.outcome.specs.declared.Status.{Status}
 use Rattle.outcome.specs.declared.Status.the-variants.{Accepted, Refused}
 use Rattle.outcome.specs.Laws.{check-accepted, check-then, first-accepted}
-use Rattle.bigendian.specs.Number.{bytes}
-use Rattle.bigendian.specs.NumberLaws.{Bytes, bytes-drop}
+use Rattle.bigendian.specs.Number.{bytes, Bytes}
+use Rattle.bigendian.specs.NumberLaws.{bytes-drop}
 use Rattle.buffer.specs.Buffer.{joined}
-use Rattle.buffer.specs.RunLaws.{joined-append, joined-map}
+use Rattle.buffer.specs.RunLaws.{joined-append, concat-map}
 use Rattle.figures.specs.Figures.{within}
 use Rattle.figures.specs.ItemLaws.{length-items}
 use Rattle.buffer.specs.AllLaws.{and-true}
-use Rattle.fields.specs.Field.{headerSize, afterField, field, endTag, endSize, endField, fieldStatus}
+use Rattle.fields.specs.Field.{headerSize, afterField, field, endTag, endSize, endField}
 use Rattle.fields.specs.FieldLaws.{length-field}
 use Rattle.limits.specs.Limits.{mostTanks, mostExponent, mostRounds, trialLimit}
 use Rattle.rows.specs.Block.{Counts}
 use Rattle.casefile.specs.Case.{Case, headFine, HeadSmall, trialCount, counted, rowsFine, figuresFine, caseStatus}
 use Rattle.casefile.specs.Layout.{headTag, headLength, headValue, headField, rowsAt, rowSize, rowsEnd, longestCase, rowField, rowsIn, trialLength, trialSize, trialFields, trialBytes, encode}
 use Rattle.casefile.specs.Decode.{headDue, headTanks, headExponent, headRounds, headStatus, rowsStatus, rowsOf, trialStatus, endStatus, tailStatus, afterHead, afterRows, inputStatus, caseOf, accepted, decoded, decode}
-use Rattle.casefile.specs.DueLaws.{due-back, due-field, due-fine, due-same}
-use Rattle.casefile.specs.BlockLaws.{Sound, SoundBlock, sound, sound-fine, Rows, split-sound, length-split, together-split, split-together, together-sound}
+use Rattle.casefile.specs.DueLaws.{due-back, due-fine, due-same}
+use Rattle.rows.specs.BlockLaws.{length-split}
+use Rattle.casefile.specs.SoundLaws.{Sound, SoundBlock, sound, sound-fine, Rows, split-sound, together-split, split-together, together-sound}
 use Rattle.casefile.specs.RowsLaws.{length-row-fields, rows-back, rows-accepted, rows-sound, rows-same, rows-fit}
 use Rattle.casefile.specs.TailLaws.{brought-most, length-trial, trial-back, trial-sound, trial-same, end-back, end-same}
 
@@ -51,14 +52,9 @@ module _ (n exponent rounds : ℕ) where
   small-head h =
       rw (le-leb 1 n (h .least), le-leb n mostTanks (h .small), le-leb exponent mostExponent (h .exponent-small), le-leb rounds mostRounds (h .rounds-small))
 
-module _ (s : List ℕ) (e : headStatus s ≡ Accepted) where
-  pub record HeadParts : Type 0 where
-    pub field-fine : fieldStatus headTag headLength s ≡ Accepted
-    pub limits : HeadSmall (headTanks s) (headExponent s) (headRounds s)
-
-  pub head-parts : HeadParts
-  unfolding headStatus
-  head-parts = record { field-fine = due-field headDue s e; limits = head-small _ _ _ (due-fine headDue s e) }
+pub head-limits : (s : List ℕ) → headStatus s ≡ Accepted → HeadSmall (headTanks s) (headExponent s) (headRounds s)
+unfolding headStatus
+head-limits s e = head-small _ _ _ (due-fine headDue s e)
 
 -- ---- what a case that is not refused has
 
@@ -86,7 +82,7 @@ module _ (c : Case) where
         trial = record { count = eqb-true _ _ (c4 .1); fine = f .1 };
       }
 
-  pub accepts : Good c → caseStatus c ≡ Accepted
+  accepts : Good c → caseStatus c ≡ Accepted
   unfolding caseStatus counted figuresFine
   accepts g =
       rw (
@@ -109,11 +105,14 @@ encode-is c =
     rw (
       joined-append (λ f. f) (map rowField (rowsIn c)) (trialFields (c .rounds) (c .trial) ++ (endField ∷ [])),
       joined-append (λ f. f) (trialFields (c .rounds) (c .trial)) (endField ∷ []),
-      joined-map rowField (rowsIn c),
+      concat-map rowField (rowsIn c),
       append-nil endField,
     )
 
 -- ---- encoded and decoded
+
+pub length-rows-in : (c : Case) → Good c → length (joined rowField (rowsIn c)) ≡ c .n * rowSize (c .n)
+length-rows-in c g = rw (length-split (c .n) (c .n) (c .rows)) at (length-row-fields (c .n) (split-sound (c .n) (c .n) (c .rows) (g .rows)))
 
 head-back : (n x k : ℕ) (rest : List ℕ) → HeadSmall n x k → headStatus (headField n x k ++ rest) ≡ Accepted
 unfolding headStatus
@@ -135,7 +134,7 @@ decode-encode c e =
     let accepted-rows = rw m at (rows-accepted (c .n) (g .limits .small) rows T) in
     let read-rows = rw m at (rows-back (c .n) rows (g .limits .small) T) in
     let tail : drop (rowsEnd (c .n)) (H ++ (R ++ T)) ≡ T =
-    after-rows (c .n) (H ++ (R ++ T)) ∙ drop-at R T (c .n * rowSize (c .n)) (rw m at (length-row-fields (c .n) rows)) in
+    after-rows (c .n) (H ++ (R ++ T)) ∙ drop-at R T (c .n * rowSize (c .n)) (length-rows-in c g) in
     let t = trial-back (c .rounds) (c .n) (c .trial) endField (g .limits .small) (g .trial) in
     rw (
       encode-is c,
@@ -181,9 +180,6 @@ module _ (s : List ℕ) (e : inputStatus s ≡ Accepted) where
       let w3 = first-accepted (trialStatus K N (afterRows s)) _ (w2 .1) in
       record { head = w1 .0; rows = w2 .0; trial = w3 .0; end = w3 .1 }
 
-  head-is : HeadParts s (parts .head)
-  head-is = head-parts s (parts .head)
-
   rows-are : Rows N (rowsOf N N (afterHead s))
   rows-are = rows-sound N N (afterHead s) (parts .rows)
 
@@ -193,7 +189,7 @@ module _ (s : List ℕ) (e : inputStatus s ≡ Accepted) where
   -- what decodes is within the limits
   case-good : Good (caseOf s)
   unfolding caseOf
-  case-good = record { limits = head-is .limits; rows = rw rows-count at (together-sound N rows-are); trial = trial-sound K N (afterRows s) (parts .trial) }
+  case-good = record { limits = head-limits s (parts .head); rows = rw rows-count at (together-sound N rows-are); trial = trial-sound K N (afterRows s) (parts .trial) }
 
   head-same : Bytes s → headField N (headExponent s) K ++ afterField headLength s ≡ s
   unfolding headStatus
@@ -219,16 +215,16 @@ module _ (s : List ℕ) (e : inputStatus s ≡ Accepted) where
       )
       (head-same bs)
 
+pub decode-good : (s : List ℕ) (c : Case) → decode s ≡ accepted c → Good c
+decode-good s c e = let w = decodes s c e in subst Good (w .1) (case-good s (w .0))
+
 pub decode-fine : (s : List ℕ) (c : Case) → decode s ≡ accepted c → caseStatus c ≡ Accepted
-decode-fine s c e = let w = decodes s c e in subst (λ (d : Case). caseStatus d ≡ Accepted) (w .1) (accepts (caseOf s) (case-good s (w .0)))
+decode-fine s c e = accepts c (decode-good s c e)
 
 pub encode-decode : (s : List ℕ) (c : Case) → Bytes s → decode s ≡ accepted c → encode c ≡ s
 encode-decode s c bs e = let w = decodes s c e in subst (λ (d : Case). encode d ≡ s) (w .1) (case-bytes s (w .0) bs)
 
 -- ---- lengths
-
-pub length-rows-in : (c : Case) → Good c → length (joined rowField (rowsIn c)) ≡ c .n * rowSize (c .n)
-length-rows-in c g = rw (length-split (c .n) (c .n) (c .rows)) at (length-row-fields (c .n) (split-sound (c .n) (c .n) (c .rows) (g .rows)))
 
 pub length-encode : (c : Case) → Good c
     → length (encode c) ≡ rowsEnd (c .n) + (trialSize (c .rounds) (c .n) + endSize)

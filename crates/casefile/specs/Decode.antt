@@ -29,9 +29,13 @@ pub record Due (A : Type 0) : Type 0 where
   pub fine : A → Bool
   pub write : A → List ℕ
 
+-- what is read of such a field at the front of s
+abbrev pub dueAt : {A : Type 0} → Due A → List ℕ → A
+dueAt d s = d .read (valueOf s)
+
 -- "at each field 2 to 6 in turn": the field due at the front of s, and then whether its figures are within their limits
 abbrev pub dueStatus : {A : Type 0} → Due A → List ℕ → Status
-dueStatus d s = first (fieldStatus (d .tag) (d .len) s) (check (d .fine (d .read (valueOf s))) OutsideLimits)
+dueStatus d s = first (fieldStatus (d .tag) (d .len) s) (check (d .fine (dueAt d s)) OutsideLimits)
 
 -- ---- the head: n, e, K
 
@@ -52,13 +56,13 @@ headDue =
 
 -- of the head whose field stands at the front of s
 abbrev pub headTanks : List ℕ → ℕ
-headTanks s = headDue .read (valueOf s) .n
+headTanks s = dueAt headDue s .n
 
 abbrev pub headExponent : List ℕ → ℕ
-headExponent s = headDue .read (valueOf s) .exponent
+headExponent s = dueAt headDue s .exponent
 
 abbrev pub headRounds : List ℕ → ℕ
-headRounds s = headDue .read (valueOf s) .rounds
+headRounds s = dueAt headDue s .rounds
 
 unfoldable pub headStatus : List ℕ → Status
 headStatus s = dueStatus headDue s
@@ -74,12 +78,12 @@ rowOf n v =
     (figures i32 1 (after u16 n (after i16 n v)))
     (figures u32 1 (after i32 1 (after u16 n (after i16 n v))))
 
--- the row whose field stands at the front of s
-abbrev pub rowAt : ℕ → List ℕ → Block
-rowAt n s = rowOf n (valueOf s)
-
 abbrev pub rowDue : ℕ → Due Block
 rowDue n = record { tag = rowTag; len = rowLength n; read = rowOf n; fine = rowsFine; write = rowBytes }
+
+-- the row whose field stands at the front of s
+abbrev pub rowAt : ℕ → List ℕ → Block
+rowAt n s = dueAt (rowDue n) s
 
 unfoldable pub rowStatus : ℕ → List ℕ → Status
 rowStatus n s = dueStatus (rowDue n) s
@@ -94,10 +98,6 @@ rowsOf n m s = items (rowSize n) (rowAt n) m s
 
 -- ---- the trial, where K is 0
 
--- the trial whose field stands at the front of s
-abbrev pub trialAt : ℕ → List ℕ → List ℤ
-trialAt n s = figures trialKind n (valueOf s)
-
 abbrev pub trialDue : ℕ → Due (List ℤ)
 trialDue n = record { tag = trialTag; len = trialLength n; read = figures trialKind n; fine = allWithin trialLimit; write = spread trialKind }
 
@@ -105,7 +105,7 @@ unfoldable pub trialStatus : ℕ → ℕ → List ℕ → Status
 trialStatus k n s = whereBrought k (dueStatus (trialDue n) s) Accepted
 
 unfoldable pub trialOf : ℕ → ℕ → List ℕ → List ℤ
-trialOf k n s = whereBrought k (trialAt n s) []
+trialOf k n s = whereBrought k (dueAt (trialDue n) s) []
 
 -- ---- the end: "Nothing follows."
 

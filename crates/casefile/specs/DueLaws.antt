@@ -1,31 +1,34 @@
--- A field that is due, once for the head, a row and the trial: one that was written is read back, and one that is not refused is what a writer writes.
--- Assumes nothing.
-use mathlib.Core.Path.{_≡_}
+-- A field that is due, once for the head, a row and the trial: one that was written is read back, one that is not refused is what a writer writes, and
+-- where it ends. Assumes nothing.
+use mathlib.Core.Path.{_≡_, ap, _∙_}
 use mathlib.Core.Bool.{true}
 use mathlib.Core.List.{List, _++_}
-use Prim.Native.Nat.{ℕ, _^_, _≤_, _<_}
+use Prim.Native.Nat.{ℕ, _+_, _^_, _≤_, _<_}
 use lib.ListN.{length, drop}
 use Rattle.outcome.specs.declared.Refusal.the-variants.{OutsideLimits}
+use Rattle.outcome.specs.declared.Status.{Status}
 use Rattle.outcome.specs.declared.Status.the-variants.{Accepted}
 use Rattle.outcome.specs.Laws.{first-check}
-use Rattle.bigendian.specs.NumberLaws.{Bytes, bytes-drop}
+use Rattle.bigendian.specs.Number.{Bytes}
+use Rattle.bigendian.specs.NumberLaws.{bytes-drop}
 use Rattle.fields.specs.Field.{lengthSize, headerSize, field, valueOf, afterField, fieldStatus}
-use Rattle.fields.specs.FieldLaws.{field-value, field-after, field-accepted, value-room, field-same}
-use Rattle.casefile.specs.Decode.{Due, dueStatus}
+use Rattle.fields.specs.FieldLaws.{field-value, field-after, field-accepted, field-room, value-room, field-same, field-room-at}
+use Rattle.casefile.specs.Decode.{Due, dueAt, dueStatus}
 
-module _ {A : Type 0} (d : Due A) (x : A) (rest : List ℕ) where
-  abbrev written : List ℕ
-  written = field (d .tag) (d .write x) ++ rest
+-- bytes that were written are read back as x, whatever follows them
+pub record FieldBack {A : Type 0} (status : List ℕ → Status) (at : List ℕ → A) (size : ℕ) (bytes : List ℕ) (x : A) (rest : List ℕ) : Type 0 where
+  pub accepted : status (bytes ++ rest) ≡ Accepted
+  pub read : at (bytes ++ rest) ≡ x
+  pub after : drop size (bytes ++ rest) ≡ rest
 
-  -- a field that was written, with what follows it
-  pub record DueBack : Type 0 where
-    pub accepted : dueStatus d written ≡ Accepted
-    pub read : d .read (valueOf written) ≡ x
-    pub after : afterField (d .len) written ≡ rest
+module _ {A : Type 0} (d : Due A) where
+  -- a field that was written
+  abbrev pub DueBack : A → List ℕ → Type 0
+  DueBack x rest = FieldBack (dueStatus d) (dueAt d) (headerSize + d .len) (field (d .tag) (d .write x)) x rest
 
-  pub due-back : length (d .write x) ≡ d .len → d .len < 256 ^ lengthSize → d .fine x ≡ true → d .read (d .write x ++ rest) ≡ x → DueBack
-  due-back l h f e =
-      let value : d .read (valueOf written) ≡ x = rw (field-value (d .tag) (d .write x) rest) e in
+  pub due-back : (x : A) (rest : List ℕ) → length (d .write x) ≡ d .len → d .len < 256 ^ lengthSize → d .fine x ≡ true → d .read (d .write x ++ rest) ≡ x → DueBack x rest
+  due-back x rest l h f e =
+      let value : dueAt d (field (d .tag) (d .write x) ++ rest) ≡ x = ap (d .read) (field-value (d .tag) (d .write x) rest) ∙ e in
       record {
         accepted = rw (field-accepted (d .tag) (d .write x) rest (d .len) l h, value, f);
         read = value;
@@ -34,18 +37,26 @@ module _ {A : Type 0} (d : Due A) (x : A) (rest : List ℕ) where
 
 -- a field that is not refused
 module _ {A : Type 0} (d : Due A) (s : List ℕ) (accepted : dueStatus d s ≡ Accepted) where
-  two : (fieldStatus (d .tag) (d .len) s ≡ Accepted) × (d .fine (d .read (valueOf s)) ≡ true)
-  two = first-check (fieldStatus (d .tag) (d .len) s) (d .fine (d .read (valueOf s))) OutsideLimits accepted
+  two : (fieldStatus (d .tag) (d .len) s ≡ Accepted) × (d .fine (dueAt d s) ≡ true)
+  two = first-check (fieldStatus (d .tag) (d .len) s) (d .fine (dueAt d s)) OutsideLimits accepted
 
-  pub due-field : fieldStatus (d .tag) (d .len) s ≡ Accepted
-  due-field = two .0
-
-  pub due-fine : d .fine (d .read (valueOf s)) ≡ true
+  pub due-fine : d .fine (dueAt d s) ≡ true
   due-fine = two .1
+
+  pub due-room : headerSize + d .len ≤ length s
+  due-room = field-room (d .tag) (d .len) s (two .0)
 
   -- where a value's bytes are read and written back
   pub due-same : Bytes s → ((v : List ℕ) → Bytes v → d .len ≤ length v → (length (d .write (d .read v)) ≡ d .len) × (d .write (d .read v) ++ drop (d .len) v ≡ v))
-      → field (d .tag) (d .write (d .read (valueOf s))) ++ afterField (d .len) s ≡ s
+      → field (d .tag) (d .write (dueAt d s)) ++ afterField (d .len) s ≡ s
   due-same bs same =
-      let w = same (valueOf s) (bytes-drop headerSize bs) (value-room (d .tag) (d .len) s due-field) in
-      field-same (d .tag) (d .len) s due-field bs (d .write (d .read (valueOf s))) (w .0) (w .1)
+      let w = same (valueOf s) (bytes-drop headerSize bs) (value-room (d .tag) (d .len) s (two .0)) in
+      field-same (d .tag) (d .len) s (two .0) bs (d .write (dueAt d s)) (w .0) (w .1)
+
+-- the check of a field that is due at a place, by the length that was computed
+pub record Checked {A : Type 0} (d : Due A) (s : List ℕ) (at : ℕ) (x : Status) : Type 0 where
+  pub is : x ≡ fieldStatus (d .tag) (d .len) (drop at s)
+  pub room : x ≡ Accepted → at + (headerSize + d .len) ≤ length s
+
+pub checked : {A : Type 0} (d : Due A) (s : List ℕ) (at len : ℕ) {x : Status} → len ≡ d .len → x ≡ fieldStatus (d .tag) len (drop at s) → Checked d s at x
+checked d s at len l e = let w = rw l at e in record { is = w; room = field-room-at (d .tag) (d .len) s at w }

@@ -2,7 +2,7 @@
 use Prim.Native.Nat.{ℕ, _+_, _*_}
 use mathlib.Core.List.{List, [], _∷_, _++_, map}
 use lib.IntN.{ℤ}
-use Rattle.buffer.specs.Buffer.{joined}
+use Rattle.buffer.specs.Buffer.{concat}
 use Rattle.figures.specs.Figures.{Kind, i16, u16, i32, u32, spread}
 use Rattle.fields.specs.Field.{headerSize, field, endField}
 use Rattle.rows.specs.Block.{Block, split}
@@ -103,7 +103,7 @@ trialFields k y = whereBrought k (trialField y ∷ []) []
 
 -- the bytes of the trial's field, or none
 abbrev pub trialBytes : ℕ → List ℤ → List ℕ
-trialBytes k y = joined (λ f. f) (trialFields k y)
+trialBytes k y = concat (trialFields k y)
 
 -- "A case is, in this order"
 abbrev pub fieldsOf : Case → List (List ℕ)
@@ -112,4 +112,4 @@ fieldsOf c =
     ∷ (map rowField (rowsIn c) ++ (trialFields (c .rounds) (c .trial) ++ (endField ∷ [])))
 
 unfoldable pub encode : Case → List ℕ
-encode c = joined (λ f. f) (fieldsOf c)
+encode c = concat (fieldsOf c)

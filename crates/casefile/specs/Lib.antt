@@ -5,7 +5,7 @@ pub mod Write
 pub mod KindLaws
 pub mod AnswerLaws
 pub mod DueLaws
-pub mod BlockLaws
+pub mod SoundLaws
 pub mod RowLaws
 pub mod RowsLaws
 pub mod TailLaws

@@ -1,25 +1,26 @@
 -- A row and its bytes: a row that was written is read back, and the bytes that are read as a row are the row's.
 -- Assumes nothing.
-use mathlib.Core.Path.{_≡_, refl, sym, ap, _∙_}
+use mathlib.Core.Path.{_≡_, sym, ap, _∙_}
 use mathlib.Core.List.{List, _++_, append-assoc}
 use Prim.Native.Nat.{ℕ, _+_, _*_, _≤_}
 use native.Mathlib.Omega.{arith}
 use lib.ListN.{length, drop, length-append, length-drop}
 use lib.Seq.{drop-drop}
 use Rattle.outcome.specs.declared.Status.the-variants.{Accepted}
-use Rattle.bigendian.specs.NumberLaws.{Bytes, bytes-drop}
+use Rattle.bigendian.specs.Number.{Bytes}
+use Rattle.bigendian.specs.NumberLaws.{bytes-drop}
 use Rattle.figures.specs.Figures.{i16, u16, i32, u32, after, spread}
 use Rattle.figures.specs.ItemLaws.{length-items}
 use Rattle.figures.specs.FigureLaws.{length-spread, after-spread, figures-spread, spread-figures}
 use Rattle.fields.specs.Field.{valueOf, afterField}
-use Rattle.fields.specs.FieldLaws.{length-field, field-room-at}
+use Rattle.fields.specs.FieldLaws.{length-field}
 use Rattle.limits.specs.Limits.{mostTanks}
 use Rattle.rows.specs.Block.{Block, Counts}
 use Rattle.casefile.specs.Layout.{rowTag, rowLength, rowSize, rightSideAt, rightToleranceAt, rowBytes, rowField}
 use Rattle.casefile.specs.Decode.{rowOf, rowAt, rowDue, rowStatus}
-use Rattle.casefile.specs.DueLaws.{DueBack, due-back, due-field, due-fine, due-same}
+use Rattle.casefile.specs.DueLaws.{DueBack, due-back, due-fine, due-room, due-same}
 use Rattle.casefile.specs.KindLaws.{coefficient-lawful, tolerance-lawful, right-side-lawful, right-tolerance-lawful}
-use Rattle.casefile.specs.BlockLaws.{SoundBlock, counts, sound, sound-fine}
+use Rattle.casefile.specs.SoundLaws.{SoundBlock, counts, sound, sound-fine}
 
 -- the places of a row's figures in its value
 module _ (n : ℕ) (v : List ℕ) where
@@ -103,4 +104,4 @@ module _ (n : ℕ) (s : List ℕ) (accepted : rowStatus n s ≡ Accepted) where
 -- where it stands in the whole input
 pub row-room : (n : ℕ) (s : List ℕ) (at : ℕ) → rowStatus n (drop at s) ≡ Accepted → at + rowSize n ≤ length s
 unfolding rowStatus
-row-room n s at e = field-room-at rowTag (rowLength n) s at refl (due-field (rowDue n) (drop at s) e)
+row-room n s at e = omega (arith, rw (length-drop at s) at (due-room (rowDue n) (drop at s) e))

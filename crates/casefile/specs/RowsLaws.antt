@@ -8,7 +8,8 @@ use native.Mathlib.Nat.{mul-le-mul}
 use lib.ListN.{length, drop}
 use Rattle.outcome.specs.declared.Status.the-variants.{Accepted}
 use Rattle.outcome.specs.Laws.{first-accepted}
-use Rattle.bigendian.specs.NumberLaws.{Bytes, bytes-drop}
+use Rattle.bigendian.specs.Number.{Bytes}
+use Rattle.bigendian.specs.NumberLaws.{bytes-drop}
 use Rattle.buffer.specs.Buffer.{joined}
 use Rattle.figures.specs.Figures.{items}
 use Rattle.figures.specs.ItemLaws.{length-joined, Back, items-back, items-same}
@@ -17,7 +18,7 @@ use Rattle.limits.specs.Limits.{mostTanks, mostCoefficients}
 use Rattle.rows.specs.Block.{Block}
 use Rattle.casefile.specs.Layout.{rowLength, rowSize, rowField}
 use Rattle.casefile.specs.Decode.{rowAt, rowStatus, rowsStatus, rowsOf}
-use Rattle.casefile.specs.BlockLaws.{counts, Rows, none, one}
+use Rattle.casefile.specs.SoundLaws.{counts, Rows, none, one}
 use Rattle.casefile.specs.RowLaws.{length-row-field, row-back, row-sound, row-same}
 
 -- ---- rows that were written, with what follows them

@@ -16,7 +16,7 @@ use Rattle.outcome.specs.Laws.{not-both}
 use Rattle.casefile.specs.declared.Case.{Case as Stored}
 use Rattle.casefile.specs.declared.Reading.{Reading}
 use Rattle.casefile.specs.Case.{Case}
-use Rattle.casefile.specs.BlockLaws.{Sound}
+use Rattle.casefile.specs.SoundLaws.{Sound}
 use Rattle.casefile.specs.Decode.{Decoded, accepted, refused, padded, stored, reading}
 
 module _ {X : Type 0} (z : X) where

@@ -5,27 +5,26 @@ use mathlib.Core.List.{List, [], _∷_, _++_, append-nil}
 use Prim.Native.Nat.{ℕ, zero, suc, _+_, _≤_, _<_}
 use native.Mathlib.Omega.{arith}
 use native.Mathlib.Nat.{le-of-eq}
-use lib.ListN.{length, drop, drop-of-length-le}
+use lib.ListN.{length, drop, length-drop, drop-of-length-le}
 use lib.IntN.{ℤ}
 use borrow.Author.Tests.{eqb-true}
 use Rattle.outcome.specs.declared.Refusal.the-variants.{TrailingBytes}
 use Rattle.outcome.specs.declared.Status.the-variants.{Accepted}
 use Rattle.outcome.specs.Laws.{first-check}
-use Rattle.bigendian.specs.Number.{be, bytes}
-use Rattle.bigendian.specs.NumberLaws.{Bytes}
+use Rattle.bigendian.specs.Number.{be, bytes, Bytes}
 use Rattle.buffer.specs.Buffer.{all}
 use Rattle.figures.specs.Figures.{within, figures, spread}
 use Rattle.figures.specs.ItemLaws.{length-items}
 use Rattle.figures.specs.FigureLaws.{length-spread, figures-spread, spread-figures}
 use Rattle.fields.specs.Field.{field, endTag, endLength, endSize, endField, valueOf, fieldStatus}
-use Rattle.fields.specs.FieldLaws.{length-field, field-is, field-room-at}
+use Rattle.fields.specs.FieldLaws.{length-field, field-is}
 use Rattle.limits.specs.Limits.{mostTanks, trialLimit}
 use Rattle.casefile.specs.Case.{whereBrought, trialCount}
 use Rattle.casefile.specs.Layout.{trialTag, trialKind, trialLength, trialSize, trialField, trialBytes}
 use Rattle.casefile.specs.Decode.{trialDue, trialStatus, trialOf, endStatus}
-use Rattle.casefile.specs.DueLaws.{due-back, due-field, due-fine, due-same}
+use Rattle.casefile.specs.DueLaws.{FieldBack, due-back, due-fine, due-room, due-same}
 use Rattle.casefile.specs.KindLaws.{trial-lawful}
-use Rattle.casefile.specs.BlockLaws.{Sound}
+use Rattle.casefile.specs.SoundLaws.{Sound}
 
 -- what is due where K is above 0
 pub not-brought : {X : Type 0} (k : ℕ) (x y : X) → (k ≡ 0 → ⊥) → whereBrought k x y ≡ y
@@ -43,10 +42,8 @@ length-trial (suc k) n y e = refl
 
 -- ---- a trial that was written
 
-pub record TrialBack (k n : ℕ) (y : List ℤ) (rest : List ℕ) : Type 0 where
-  pub accepted : trialStatus k n (trialBytes k y ++ rest) ≡ Accepted
-  pub read : trialOf k n (trialBytes k y ++ rest) ≡ y
-  pub after : drop (trialSize k n) (trialBytes k y ++ rest) ≡ rest
+abbrev pub TrialBack : ℕ → ℕ → List ℤ → List ℕ → Type 0
+TrialBack k n y rest = FieldBack (trialStatus k n) (trialOf k n) (trialSize k n) (trialBytes k y) y rest
 
 pub trial-back : (k n : ℕ) (y : List ℤ) (rest : List ℕ) → n ≤ mostTanks → Sound (within trialLimit) (trialCount k n) y → TrialBack k n y rest
 unfolding trialStatus trialOf
@@ -78,7 +75,7 @@ trial-same (suc k) n s e bs = refl
 pub trial-place : (k n : ℕ) (s : List ℕ) (at b : ℕ) → at < b → length s < b → trialStatus k n (drop at s) ≡ Accepted → at + trialSize k n < b
 unfolding trialStatus
 trial-place zero n s at b h l e =
-    omega (arith, field-room-at trialTag (trialLength n) s at refl (due-field (trialDue n) (drop at s) e))
+    omega (arith, rw (length-drop at s) at (due-room (trialDue n) (drop at s) e))
 trial-place (suc k) n s at b h l e = omega arith
 
 -- ---- the end

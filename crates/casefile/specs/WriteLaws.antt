@@ -16,7 +16,7 @@ use Rattle.outcome.specs.declared.Status.the-variants.{Accepted, Refused}
 use Rattle.outcome.specs.Outcome.{said}
 use Rattle.outcome.specs.Laws.{no-count, same-refusal, check-then}
 use Rattle.buffer.specs.Buffer.{onto, Wrote}
-use Rattle.bigendian.specs.NumberLaws.{Bytes}
+use Rattle.bigendian.specs.Number.{Bytes}
 use Rattle.buffer.specs.Laws.{length-onto, take-onto}
 use Rattle.casefile.specs.Case.{Case, caseStatus}
 use Rattle.casefile.specs.Layout.{longestCase, encode}

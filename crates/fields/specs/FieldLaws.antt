@@ -15,8 +15,8 @@ use Rattle.outcome.specs.Laws.{check-accepted, check-then}
 use Rattle.buffer.specs.Buffer.{onto}
 use Rattle.buffer.specs.Laws.{part, put}
 use Rattle.buffer.specs.WroteLaws.{wrote-two}
-use Rattle.bigendian.specs.Number.{be, bytes}
-use Rattle.bigendian.specs.NumberLaws.{Bytes, be-bytes, length-bytes, bytes-of, bytes-drop}
+use Rattle.bigendian.specs.Number.{be, bytes, Bytes}
+use Rattle.bigendian.specs.NumberLaws.{be-bytes, length-bytes, bytes-of, bytes-drop}
 use Rattle.fields.specs.Field.{lengthAt, lengthSize, header, headerSize, field, tagOf, lengthOf, valueOf, afterField, fieldStatus}
 
 pub length-header : (tag len : ℕ) → length (header tag len) ≡ headerSize

@@ -8,14 +8,15 @@ use native.Mathlib.Omega.{arith}
 use native.Mathlib.Nat.{mul-suc, mul-comm}
 use lib.ListN.{length, take, drop, length-drop, take-append-drop}
 use lib.Seq.{take-at, drop-at}
+use lib.IntN.{ℤ}
 use mir.Syntax.{Width}
-use mir.Val.{hbits}
+use mir.Val.{hbits, SFits}
 use mir.Facts.{toZ-ofZ, ofZ-toZ, fits-ofZ}
 use store.Enc.{two-256}
 use borrow.Author.Tests.{leb-true}
 use Rattle.integers.specs.Size.{sfits-leb}
-use Rattle.bigendian.specs.Number.{be, size}
-use Rattle.bigendian.specs.NumberLaws.{Bytes, bytes-drop, bytes-of, be-of, be-bytes, length-bytes}
+use Rattle.bigendian.specs.Number.{be, size, Bytes}
+use Rattle.bigendian.specs.NumberLaws.{bytes-drop, bytes-of, be-of, be-bytes, length-bytes}
 use Rattle.buffer.specs.Buffer.{all}
 use Rattle.buffer.specs.AllLaws.{and-true}
 use Rattle.figures.specs.Figures.{Kind, unsigned, signed, upTo, within, figureAt, figures, after, figureBytes, spread}
@@ -90,3 +91,7 @@ module _ {X : Type 0} (k : Kind X) where
               rw (l .same (be (take (k .width) v)) (be-of (k .width) v (h .0) a), bytes-of (k .width) v (h .0) a) (take-append-drop (k .width) v),
               (bytes-drop (k .width) (h .0), simp length-drop (omega (arith, h .1))),
             )
+
+-- a signed figure that fits its width
+pub signed-back : (w : Width) (z : ℤ) → SFits w z → (r : List ℕ) → figureAt (signed w) (figureBytes (signed w) z ++ r) ≡ z
+signed-back w z f r = figure-back (signed w) z (rw (← (two-256 w)) (fits-ofZ {w = w} f .fits)) (toZ-ofZ f) r

@@ -17,7 +17,7 @@ use mir.Syntax.{Width, w64}
 use mir.Val.{hbits, toZ, ofZ}
 use Rattle.integers.specs.Signed.{wide-is}
 use Rattle.buffer.specs.Buffer.{onto, run, all}
-use Rattle.buffer.specs.RunLaws.{joined-run, Running, run-ended}
+use Rattle.buffer.specs.RunLaws.{joined-run, Running, run-joined}
 use Rattle.figures.specs.Figures.{Kind, within, items, figureAt, figures, figureBytes, spread, Read}
 
 pub impossible : {P : Type 0} → false ≡ true → P
@@ -138,4 +138,5 @@ module _ {X : Type 0} (k : Kind X) (d : X) (l : List X) where
   Writing out₀ out i p = Running (k .width) (λ j. figureBytes k (getD l j d)) (length l) 0 out₀ out i p
 
   pub write-ended : {out₀ out : List ℕ} {i p : ℕ} → Writing out₀ out i p → length l ≤ i → out ≡ onto (spread k l) out₀
-  write-ended r h = run-ended r h .wrote .bytes ∙ rw (← (spread-run (length l) (omega arith)), take-all (length l) l (omega arith))
+  unfolding spread
+  write-ended r h = run-joined (figureBytes k) d l refl r h .bytes

@@ -1,5 +1,5 @@
 // Runs of figures of one kind: read with a test of their limits, tested, and written.
-// One law over the kind of figure stands behind each of the three loops.
+// One law over the kind of figure stands behind the loops of each of the three.
 ghost use mathlib.Core.Path.{_≡_};
 ghost use Prim.Native.Nat.{_+_, _*_, _≤_};
 ghost use lib.ListN.{length, drop};

@@ -1,17 +1,19 @@
 -- How long a record's parts are. Assumes nothing.
-use mathlib.Core.Path.{_≡_, _∙_}
-use mathlib.Core.List.{List, [], _∷_, _++_}
-use Prim.Native.Nat.{ℕ, _≤_}
+use mathlib.Core.Path.{_≡_, ap, _∙_}
+use mathlib.Core.Bool.{Bool}
+use mathlib.Core.List.{List, [], _∷_, _++_, append-assoc, append-nil}
+use Prim.Native.Nat.{ℕ, _+_, _≤_}
 use native.Mathlib.Omega.{arith}
 use lib.ListN.{length, getD, length-append}
 use lib.IntN.{ℤ, pos}
+use lib.Seq.{sets}
 use Rattle.limits.specs.Limits.{mostTanks}
-use Rattle.buffer.specs.Buffer.{run}
+use Rattle.buffer.specs.Buffer.{onto, run, concat}
 use Rattle.buffer.specs.RunLaws.{length-run}
 use Rattle.figures.specs.Figures.{i32, i64, u64, figureBytes}
 use Rattle.figures.specs.FigureLaws.{length-figure}
-use Rattle.fields.specs.Field.{endTag, endField}
-use Rattle.fields.specs.FieldLaws.{length-field}
+use Rattle.fields.specs.Field.{headerSize, header, field, endTag, endField}
+use Rattle.fields.specs.FieldLaws.{length-field, field-stored}
 use Rattle.judge.specs.declared.Judgement.{Judgement}
 use Rattle.recordfile.specs.Layout.{pairSize, answerAt, rowsAt, factorAt, endAt, verdictTag, answerTag, rowsTag, factorTag, flag, answerBytes, pairAt, verdictField, answerField, rowsField, factorField, judgedFields, recordOf, recordLength, longestRecord}
 
@@ -50,17 +52,29 @@ module _ (n rounds : ℕ) (Y : List ℤ) (j : Judgement) where
       length-append first-two (rowsField n (j .residuals) (j .reaches))
       ∙ omega (arith, length-two, length-field rowsTag (run n p), length-run pairSize p (length-pair (j .residuals) (j .reaches)) n)
 
-  pub length-judged : length (judgedFields n rounds Y j) ≡ endAt n
-  unfolding judgedFields
-  length-judged =
+  abbrev pub first-four : List ℕ
+  first-four = first-three ++ factorField (j .none) (j .decides)
+
+  pub length-four : length first-four ≡ endAt n
+  length-four =
       length-append first-three (factorField (j .none) (j .decides))
       ∙ omega (arith, length-three, length-field factorTag (flag (j .none) ∷ j .decides ∷ []))
 
+  pub judged-is : first-four ≡ concat (judgedFields n rounds Y j)
+  judged-is = simp (append-assoc, append-nil)
+
+  pub record-is : recordOf n rounds Y j ≡ first-four ++ endField
+  unfolding recordOf
+  record-is = simp (append-assoc, append-nil)
+
   -- "It has 20 + 20n bytes, at most 180"
   pub length-record : length (recordOf n rounds Y j) ≡ recordLength n
-  unfolding recordOf
-  length-record =
-      length-append (judgedFields n rounds Y j) endField ∙ omega (arith, length-judged, length-field endTag [])
+  length-record = ap length record-is ∙ length-append first-four endField ∙ omega (arith, length-four, length-field endTag [])
 
 pub longest-record : (n : ℕ) → n ≤ mostTanks → recordLength n ≤ longestRecord
 longest-record n h = omega arith
+
+-- a flag and the bytes behind it, stored behind the header
+pub flag-stored : (tag : ℕ) (b : Bool) (v out l : List ℕ) {m : ℕ} → m ≡ flag b → headerSize + length (m ∷ v) ≤ length l
+    → l ≡ onto (header tag (length (m ∷ v))) out → sets l headerSize (m ∷ v) ≡ onto (field tag (flag b ∷ v)) out
+flag-stored tag b v out l {m} e h g = field-stored tag (m ∷ v) out l h g ∙ ap (λ x. onto (field tag (x ∷ v)) out) e

@@ -5,7 +5,7 @@ use Prim.Native.Nat.{ℕ, _+_, _*_, _≤_, _<_}
 use lib.ListN.{getD}
 use lib.IntN.{ℤ, pos}
 use Rattle.limits.specs.Limits.{mostTanks}
-use Rattle.buffer.specs.Buffer.{run}
+use Rattle.buffer.specs.Buffer.{run, concat}
 use Rattle.figures.specs.Figures.{i32, i64, u64, figureBytes}
 use Rattle.fields.specs.Field.{headerSize, field, endField}
 use Rattle.judge.specs.declared.Judgement.{Judgement}
@@ -103,15 +103,13 @@ abbrev pub factorField : Bool → ℕ → List ℕ
 factorField none decides = field factorTag (flag none ∷ decides ∷ [])
 
 -- the fields 10 to 13 of an answer of n figures, the rounds used and its judgement
-unfoldable pub judgedFields : ℕ → ℕ → List ℤ → Judgement → List ℕ
+abbrev pub judgedFields : ℕ → ℕ → List ℤ → Judgement → List (List ℕ)
 judgedFields n rounds Y j =
-    ((verdictField (j .met) (j .unmet) rounds ++ answerField n Y)
-    ++ rowsField n (j .residuals) (j .reaches))
-    ++ factorField (j .none) (j .decides)
+    verdictField (j .met) (j .unmet) rounds ∷ answerField n Y ∷ rowsField n (j .residuals) (j .reaches) ∷ factorField (j .none) (j .decides) ∷ []
 
 -- and the end field
 unfoldable pub recordOf : ℕ → ℕ → List ℤ → Judgement → List ℕ
-recordOf n rounds Y j = judgedFields n rounds Y j ++ endField
+recordOf n rounds Y j = concat (judgedFields n rounds Y j ++ (endField ∷ []))
 
 -- "It has 20 + 20n bytes, at most 180"
 abbrev pub recordLength : ℕ → ℕ

@@ -9,7 +9,7 @@ use Rattle.fields.specs.Field.{headerSize}
 use Rattle.judge.specs.Finding.{Finding}
 use Rattle.recordfile.specs.Layout.{pairSize, reachAt, metAt, unmetAt, roundsAt, answerAt, rowsAt, noneAt, decidesAt}
 
--- a value begins behind its field's header
+-- a value begins behind its field's header: the rounds of field 10
 abbrev pub recordedRounds : List ℕ → ℕ
 recordedRounds bytes = getD bytes roundsAt 0
 
@@ -17,7 +17,7 @@ recordedRounds bytes = getD bytes roundsAt 0
 abbrev pub recordedAnswer : List ℕ → ℕ → ℤ
 recordedAnswer bytes j = figureAt i32 (drop (answerAt + headerSize + i32 .width * j) bytes)
 
--- row i's residual and reach, i from 0
+-- verdict, named row, none and the row that decides; of row i, from 0, its residual and reach
 abbrev pub recordedFinding : ℕ → List ℕ → Finding
 recordedFinding n bytes =
     record {

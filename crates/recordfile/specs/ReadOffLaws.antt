@@ -10,17 +10,16 @@ use lib.Seq.{drop-at, drop-drop, getD-append-add}
 use lib.IntN.{ℤ, pos}
 use mir.Syntax.{w32, w64}
 use mir.Val.{SFits}
-use mir.Facts.{toZ-ofZ, fits-ofZ}
 use Rattle.bigendian.specs.Number.{bytes}
 use Rattle.buffer.specs.Buffer.{run}
 use Rattle.buffer.specs.RunLaws.{Piece, run-piece}
 use Rattle.figures.specs.Figures.{i32, i64, u64, figureAt, figureBytes}
-use Rattle.figures.specs.FigureLaws.{length-figure, figure-back}
+use Rattle.figures.specs.FigureLaws.{length-figure, figure-back, signed-back}
 use Rattle.fields.specs.Field.{headerSize, field, header, endField}
 use Rattle.fields.specs.FieldLaws.{length-header}
 use Rattle.judge.specs.declared.Judgement.{Judgement}
-use Rattle.recordfile.specs.Layout.{answerTag, rowsTag, pairSize, reachAt, answerAt, rowsAt, factorAt, flag, answerBytes, pairAt, answerField, rowsField, factorField, judgedFields, recordOf}
-use Rattle.recordfile.specs.Laws.{first-one, first-two, first-three, length-answer, length-pair, length-one, length-two, length-three}
+use Rattle.recordfile.specs.Layout.{answerTag, rowsTag, pairSize, reachAt, answerAt, rowsAt, factorAt, flag, answerBytes, pairAt, answerField, rowsField, factorField, recordOf}
+use Rattle.recordfile.specs.Laws.{first-one, first-two, first-three, record-is, length-answer, length-pair, length-one, length-two, length-three}
 use Rattle.recordfile.specs.ReadOff.{recordedRounds, recordedAnswer, recordedFinding}
 
 -- what stands k bytes into the last of three parts
@@ -33,9 +32,6 @@ flag-eqb : (b : Bool) → eqb (flag b) 1 ≡ b
 flag-eqb true = refl
 flag-eqb false = refl
 
-regroup : (a b c d e : List ℕ) → (((a ++ b) ++ c) ++ d) ++ e ≡ (a ++ b) ++ (c ++ (d ++ e))
-regroup a b c d e = simp append-assoc
-
 -- ---- the record's fields
 
 module _ (n rounds : ℕ) (Y : List ℤ) (j : Judgement) where
@@ -46,15 +42,15 @@ module _ (n rounds : ℕ) (Y : List ℤ) (j : Judgement) where
   T i = getD (j .reaches) i 0
 
   pub recorded-met : recordedFinding n (recordOf n rounds Y j) .met ≡ j .met
-  unfolding recordOf judgedFields field bytes
+  unfolding recordOf field bytes
   recorded-met = flag-eqb (j .met)
 
   pub recorded-unmet : recordedFinding n (recordOf n rounds Y j) .unmet ≡ j .unmet
-  unfolding recordOf judgedFields field bytes
+  unfolding recordOf field bytes
   recorded-unmet = refl
 
   pub recorded-rounds : recordedRounds (recordOf n rounds Y j) ≡ rounds
-  unfolding recordOf judgedFields field bytes
+  unfolding recordOf field bytes
   recorded-rounds = refl
 
   -- the whole, part by part
@@ -73,35 +69,33 @@ module _ (n rounds : ℕ) (Y : List ℤ) (j : Judgement) where
   abbrev last : List ℕ
   last = factorField (j .none) (j .decides) ++ endField
 
-  from-answer : recordOf n rounds Y j ≡ W ++ (header answerTag (length figures) ++ (figures ++ (rowsField n (j .residuals) (j .reaches) ++ last)))
-  unfolding recordOf judgedFields field
-  from-answer =
-      let rows = rowsField n (j .residuals) (j .reaches) in
-      regroup W (answerField n Y) rows (factorField (j .none) (j .decides)) endField
-      ∙ append-assoc W (answerField n Y) (rows ++ last)
-      ∙ ap (λ l. W ++ l) (append-assoc (header answerTag (length figures)) figures (rows ++ last))
+  abbrev rows : List ℕ
+  rows = rowsField n (j .residuals) (j .reaches)
+
+  in-fields : recordOf n rounds Y j ≡ W ++ (answerField n Y ++ (rows ++ last))
+  in-fields = record-is n rounds Y j ∙ simp append-assoc
+
+  from-answer : recordOf n rounds Y j ≡ W ++ (header answerTag (length figures) ++ (figures ++ (rows ++ last)))
+  unfolding field
+  from-answer = in-fields ∙ ap (λ l. W ++ l) (append-assoc (header answerTag (length figures)) figures (rows ++ last))
 
   from-rows : recordOf n rounds Y j ≡ WA ++ (header rowsTag (length pairs) ++ (pairs ++ last))
-  unfolding recordOf judgedFields field
-  from-rows =
-      regroup W (answerField n Y) (rowsField n (j .residuals) (j .reaches)) (factorField (j .none) (j .decides)) endField
-      ∙ ap (λ l. WA ++ l) (append-assoc (header rowsTag (length pairs)) pairs last)
+  unfolding field
+  from-rows = in-fields ∙ sym (append-assoc W (answerField n Y) (rows ++ last)) ∙ ap (λ l. WA ++ l) (append-assoc (header rowsTag (length pairs)) pairs last)
 
   from-factor : recordOf n rounds Y j ≡ first-three n rounds Y j ++ last
-  unfolding recordOf judgedFields
-  from-factor =
-      append-assoc (first-three n rounds Y j) (factorField (j .none) (j .decides)) endField
+  from-factor = record-is n rounds Y j ∙ append-assoc (first-three n rounds Y j) (factorField (j .none) (j .decides)) endField
 
   -- ---- field 11
 
   pub recorded-answer : (i : ℕ) → i < n → SFits w32 (getD Y i (pos 0)) → recordedAnswer (recordOf n rounds Y j) i ≡ getD Y i (pos 0)
   recorded-answer i h f =
-      let rest = rowsField n (j .residuals) (j .reaches) ++ last in
+      let rest = rows ++ last in
       let p = run-piece (i32 .width) (answerBytes Y) (length-answer Y) n i rest h in
       let k = length figures in
       ap (λ l. figureAt i32 (drop (answerAt + headerSize + i32 .width * i) l)) from-answer
       ∙ ap (figureAt i32) (in-third answerAt headerSize (i32 .width * i) W (header answerTag k) (figures ++ rest) (length-one n rounds Y j) (length-header answerTag k) ∙ p .here)
-      ∙ figure-back i32 (getD Y i (pos 0)) (fits-ofZ {w = w32} f .fits) (toZ-ofZ f) (p .behind)
+      ∙ signed-back w32 (getD Y i (pos 0)) f (p .behind)
 
   -- ---- field 12
 
@@ -125,7 +119,7 @@ module _ (n rounds : ℕ) (Y : List ℤ) (j : Judgement) where
         ∙ append-assoc (figureBytes i64 (R i)) (figureBytes u64 (T i)) (here .behind)
 
     pub recorded-residual : SFits w64 (R i) → recordedFinding n (recordOf n rounds Y j) .R i ≡ R i
-    recorded-residual f = ap (figureAt i64) row-place ∙ figure-back i64 (R i) (fits-ofZ {w = w64} f .fits) (toZ-ofZ f) from-reach
+    recorded-residual f = ap (figureAt i64) row-place ∙ signed-back w64 (R i) f from-reach
 
     reach-place : drop (rowsAt n + headerSize + pairSize * i + reachAt) (recordOf n rounds Y j) ≡ from-reach
     reach-place =

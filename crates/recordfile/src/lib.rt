@@ -3,7 +3,7 @@ ghost use mathlib.Core.Path.{_≡_};
 ghost use Prim.Native.Nat.{_+_, _≤_};
 ghost use lib.ListN.{length};
 ghost use Rattle.limits.specs.Limits.{mostTanks};
-ghost use Rattle.buffer.specs.Buffer.{onto, Wrote, run};
+ghost use Rattle.buffer.specs.Buffer.{onto, Wrote, run, concat};
 ghost use Rattle.fields.specs.Field.{headerSize};
 ghost use Rattle.recordfile.specs.Layout.{answerLength, rowsLength, factorLength, answerAt, rowsAt, factorAt, endAt, flag as flagOf, pair, pairAt, pairSize, verdictField, answerField, rowsField, factorField, judgedFields, recordOf, Holds};
 use fields::HEADER_SIZE;
@@ -169,7 +169,7 @@ fn write_judged(
     judgement: Judgement,
 )
     requires { ⌜ Holds n rounds judgement (length (now out)) ⌝ }
-    ensures { λ _. ⌜ now (out .exit) ≡ onto (judgedFields n rounds (now (answer .entry)) judgement) (now (out .entry)) ⌝ }
+    ensures { λ _. ⌜ now (out .exit) ≡ onto (concat (judgedFields n rounds (now (answer .entry)) judgement)) (now (out .entry)) ⌝ }
 {
     let residuals = judgement.residuals;
     let reaches = judgement.reaches;

@@ -13,16 +13,26 @@ use Rattle.outcome.specs.Laws.{stops, first-goes-on, not-both}
 use Rattle.buffer.specs.Laws.{filled, length-onto}
 use Rattle.figures.specs.LoopLaws.{Reading, begun, stopped, turn, ended}
 use Rattle.limits.specs.Limits.{mostTanks}
-use Rattle.rows.specs.Block.{Block, block, Counts, Holds, SameLengths, RowsRoom, stacked, over, together}
+use Rattle.rows.specs.Block.{Block, block, Counts, HasRoom, SameLengths, RowsRoom, stacked, over, together}
 use Rattle.casefile.specs.Layout.{rowSize}
 use Rattle.casefile.specs.Decode.{rowAt, rowStatus, rowsStatus}
-use Rattle.casefile.specs.BlockLaws.{SoundBlock, counts, Rows, none, together-sound, together-more, rows-more, AtRow, first-row, rows-held, row-held, next-row}
+use Rattle.rows.specs.BlockLaws.{together-more, AtRow, first-row, rows-held, row-held, next-row}
+use Rattle.casefile.specs.SoundLaws.{SoundBlock, counts, Rows, none, together-sound, rows-more}
 use Rattle.casefile.specs.RowLaws.{row-sound, row-room}
 use Rattle.row_reader.specs.Read.{RowRead, RowsRead}
 
+-- the lists after a row's parts of them, which begin at k and at m, were filled with r
+abbrev with-row : ℕ → ℕ → ℕ → Block → Block → Block
+with-row n k m lists r =
+    block
+    (putMid k (k + n - k) (lists .coefficients) (r .coefficients))
+    (putMid k (k + n - k) (lists .tolerances) (r .tolerances))
+    (putMid m (m + 1 - m) (lists .right-sides) (r .right-sides))
+    (putMid m (m + 1 - m) (lists .right-tolerances) (r .right-tolerances))
+
 -- figures over the fronts of lists that have room for them, and a row's figures behind them
 module _ {k m : ℕ} (d : Block) (c : Counts k m d) (lists₀ lists : Block) (e : lists ≡ over d lists₀) where
-  over-lengths : Holds k m lists₀ → SameLengths lists lists₀
+  over-lengths : HasRoom k m lists₀ → SameLengths lists lists₀
   over-lengths h =
       rw e
       (record {
@@ -32,13 +42,7 @@ module _ {k m : ℕ} (d : Block) (c : Counts k m d) (lists₀ lists : Block) (e 
         lf = length-onto (d .right-tolerances) (lists₀ .right-tolerances) (omega (arith, c, h));
       })
 
-  over-more : {n : ℕ} (r : Block) → Counts n 1 r
-      → block
-      (putMid k (k + n - k) (lists .coefficients) (r .coefficients))
-      (putMid k (k + n - k) (lists .tolerances) (r .tolerances))
-      (putMid m (m + 1 - m) (lists .right-sides) (r .right-sides))
-      (putMid m (m + 1 - m) (lists .right-tolerances) (r .right-tolerances))
-      ≡ over (stacked d r) lists₀
+  over-more : {n : ℕ} (r : Block) → Counts n 1 r → with-row n k m lists r ≡ over (stacked d r) lists₀
   over-more {n} r h =
       rw (
         filled _ _ (d .coefficients) (r .coefficients) k (k + n - k) (ap (λ l. l .coefficients) e) (c .la) (omega (arith, h)),
@@ -67,7 +71,7 @@ module _ (s : List ℕ) (at n : ℕ) (lists₀ : Block) where
     lengths = over-lengths (together (r .done)) counted lists₀ lists (r .is) (rows-held (r .at-row) (r .read .count))
 
     -- the next row finds room
-    pub next : i < n → (n ≤ mostTanks) × Holds (from + n) (i + 1) lists × SameLengths lists lists₀
+    pub next : i < n → (n ≤ mostTanks) × HasRoom (from + n) (i + 1) lists × SameLengths lists lists₀
     next h = (r .at-row .room .small, omega (arith, row-held (r .at-row) h, lengths), lengths)
 
     pub stopped-rows : i < n → (x : Status) (q : Refusal) → x ≡ rowStatus n (drop p s) → x ≡ Refused q → (exit : Block) → RowsRead n (drop at s) lists₀ x exit
@@ -79,13 +83,7 @@ module _ (s : List ℕ) (at n : ℕ) (lists₀ : Block) where
     past x e g = row-room n s p (sym e ∙ g)
 
     pub turn-rows : i < n → {size : ℕ} → size ≡ rowSize n → {x : Status} {row : Block} → RowRead n (drop p s) x row → x ≡ Accepted
-        → ReadingRows
-        (block
-        (putMid from (from + n - from) (lists .coefficients) (row .coefficients))
-        (putMid from (from + n - from) (lists .tolerances) (row .tolerances))
-        (putMid i (i + 1 - i) (lists .right-sides) (row .right-sides))
-        (putMid i (i + 1 - i) (lists .right-tolerances) (row .right-tolerances)))
-        (i + 1) (from + n) (p + size)
+        → ReadingRows (with-row n from i lists row) (i + 1) (from + n) (p + size)
     unfolding rowsStatus
     turn-rows h e {x} {row} w g =
         let acc : rowStatus n (drop p s) ≡ Accepted = sym (w .status) ∙ g in

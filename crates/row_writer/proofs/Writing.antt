@@ -1,23 +1,22 @@
 -- What a run of writes leaves in the buffer: a row, and the rows so far.
 -- Assumes nothing.
-use mathlib.Core.Path.{_≡_, refl, sym, ap, _∙_}
+use mathlib.Core.Path.{_≡_, refl, sym, _∙_}
 use mathlib.Core.List.{List, append-assoc}
 use Prim.Native.Nat.{ℕ, _+_, _*_, _-_, _≤_, _<_}
 use native.Mathlib.Omega.{arith}
 use lib.ListN.{length, getD, take, drop, length-take, length-drop}
-use lib.Seq.{take-all}
 use Rattle.buffer.specs.Buffer.{onto, joined}
 use Rattle.buffer.specs.Laws.{part, put}
 use Rattle.buffer.specs.WroteLaws.{wrote-front, wrote-more}
-use Rattle.buffer.specs.RunLaws.{joined-run, Running, run-begun, run-next, run-turn-lent, run-ended}
+use Rattle.buffer.specs.RunLaws.{Running, run-begun, run-next, run-turn-lent, run-joined}
 use Rattle.figures.specs.Figures.{i16, u16, i32, u32, spread}
 use Rattle.figures.specs.FigureLaws.{length-spread}
 use Rattle.fields.specs.Field.{headerSize, header}
 use Rattle.fields.specs.FieldLaws.{length-header, field-is-header}
 use Rattle.limits.specs.Limits.{mostTanks}
-use Rattle.rows.specs.Block.{Block, noRow, Counts, Holds, RowLists, RowsRoom, front, behind, split}
+use Rattle.rows.specs.Block.{Block, noRow, Counts, HasRoom, RowLists, RowsRoom, front, behind, split}
 use Rattle.casefile.specs.Layout.{rowTag, rowLength, rowSize, tolerancesAt, rightSideAt, rightToleranceAt, rowBytes, rowField}
-use Rattle.casefile.specs.BlockLaws.{split-at, length-split, AtRow, first-row, row-held, next-row}
+use Rattle.rows.specs.BlockLaws.{split-at, length-split, AtRow, first-row, row-held, next-row}
 use Rattle.casefile.specs.RowLaws.{length-row, length-row-field}
 
 -- ---- a row
@@ -62,7 +61,7 @@ module _ (out₀ : List ℕ) (n : ℕ) (lists : Block) where
     abbrev row : Block
     row = front (from + n - from) (i + 1 - i) (behind from i lists)
 
-    pub next : i < n → (n ≤ mostTanks) × Holds (from + n) (i + 1) lists × (p + rowSize n ≤ length out)
+    pub next : i < n → (n ≤ mostTanks) × HasRoom (from + n) (i + 1) lists × (p + rowSize n ≤ length out)
     next h = (r .at-row .room .small, row-held (r .at-row) h, run-next (r .running) h)
 
     row-counts : i < n → Counts n 1 row
@@ -98,6 +97,4 @@ module _ (out₀ : List ℕ) (n : ℕ) (lists : Block) where
         })
 
     pub ended : n ≤ i → out ≡ onto (joined rowField (split n n lists)) out₀
-    ended h =
-        let l = length-split n n lists in
-        run-ended (r .running) h .wrote .bytes ∙ rw (← (joined-run rowField noRow (split n n lists) n (omega arith)), take-all n (split n n lists) (omega arith))
+    ended h = run-joined rowField noRow (split n n lists) (length-split n n lists) (r .running) h .bytes

@@ -43,7 +43,11 @@ stacked r s = paired (λ X. _++_) r s
 abbrev pub over : Block → Block → Block
 over r s = paired (λ X. onto) r s
 
--- the first m rows of a block, n tanks each
+-- row i of a block, n tanks each
+abbrev pub rowIn : ℕ → Block → ℕ → Block
+rowIn n r i = front n 1 (behind (i * n) i r)
+
+-- the first m rows
 unfoldable pub split : ℕ → ℕ → Block → List Block
 split n zero r = []
 split n (suc m) r = front n 1 r ∷ split n m (behind n 1 r)
@@ -71,8 +75,8 @@ abbrev pub Counts : ℕ → ℕ → Block → Type 0
 Counts k m r = Lengths (λ x y. x ≡ y) r k k m m
 
 -- room for so many
-abbrev pub Holds : ℕ → ℕ → Block → Type 0
-Holds k m r = Lengths (λ x y. y ≤ x) r k k m m
+abbrev pub HasRoom : ℕ → ℕ → Block → Type 0
+HasRoom k m r = Lengths (λ x y. y ≤ x) r k k m m
 
 -- as many as another block
 abbrev pub SameLengths : Block → Block → Type 0
@@ -87,4 +91,4 @@ pub record RowLists (n : ℕ) (r : Block) : Type 0 where
 -- lists that hold the figures of n rows
 pub record RowsRoom (n : ℕ) (r : Block) : Type 0 where
   pub small : n ≤ mostTanks
-  pub room : Holds (n * n) n r
+  pub room : HasRoom (n * n) n r

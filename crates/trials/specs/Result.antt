@@ -26,7 +26,7 @@ use Rattle.substitution.specs.Passes.{forward, correction, backward-from, backw
 use Rattle.solver.specs.Refinement.{gained-from, updated, round, refined}
 use Rattle.solver.specs.Solution.{solution}
 use Rattle.buffer.specs.Buffer.{run, all}
-use Rattle.recordfile.specs.Layout.{judgedFields, recordOf, longestRecord}
+use Rattle.recordfile.specs.Layout.{recordOf, longestRecord}
 use Rattle.recordfile.specs.ReadOff.{recordedRounds, recordedAnswer, recordedFinding}
 use Rattle.ballast.specs.Call.{worked, answer-of, finished, call}
 
@@ -90,5 +90,5 @@ lent room = replicate room 0xA5
 -- the call on a case's bytes, with the shortest result buffer that it takes. The line below names all that the call computes with, once for
 -- every statement about it
 unfoldable pub found : Case → Result
-unfolding encode rowBytes split spread call decode inputStatus caseOf headStatus rowsStatus rowStatus rowOf rowsFine trialStatus trialOf endStatus tailStatus stored fieldStatus items all be worked answer-of solution eliminated after-steps advanced pivot-row pivot-from eliminated-below eliminated-row working working-row fill outcome refined round updated gained-from forward backward backward-from correction rnd near rounds-up judgement first-unmet first-not deciding first-greatest order ordered residual reach filled finished recordOf judgedFields run field bytes
+unfolding encode rowBytes split spread call decode inputStatus caseOf headStatus rowsStatus rowStatus rowOf rowsFine trialStatus trialOf endStatus tailStatus stored fieldStatus items all be worked answer-of solution eliminated after-steps advanced pivot-row pivot-from eliminated-below eliminated-row working working-row fill outcome refined round updated gained-from forward backward backward-from correction rnd near rounds-up judgement first-unmet first-not deciding first-greatest order ordered residual reach filled finished recordOf run field bytes
 found c = resultOf (c .n) (call (encode c) (lent longestRecord))

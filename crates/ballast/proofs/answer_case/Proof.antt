@@ -6,7 +6,7 @@ use Prim.Native.Nat.{ℕ}
 use native.Mathlib.Omega.{arith}
 use denote.Ref.{now}
 use Rattle.casefile.specs.declared.Case.{Case}
-use Rattle.casefile.specs.CaseLaws.{good, decode-fine}
+use Rattle.casefile.specs.CaseLaws.{decode-good}
 use Rattle.casefile.specs.Decode.{decode}
 use Rattle.casefile.specs.StoredLaws.{Whole, reading-accepted, reading-refused}
 use Rattle.ballast.specs.Call.{Workable}
@@ -33,7 +33,7 @@ module _ (d : tie.After-enum-told) where
   fit : Workable case
   fit =
       subst (λ k. Workable k) (sym (whole .held))
-      (workable (whole .figures) (good (whole .figures) (decode-fine (file read) (whole .figures) (whole .decoded))))
+      (workable (whole .figures) (decode-good (file read) (whole .figures) (whole .decoded)))
 
 returns : tie.Need-returns
 returns c =

@@ -1,19 +1,17 @@
 -- `case_reader::read_trial` meets its contract, by whether the case brings a trial: the field's refusal, then its figures.
 -- Assumes nothing.
-use Prim.Native.Nat.{_+_, _≤_}
 use native.Mathlib.Omega.{arith}
 use mathlib.Core.Path.{_≡_, refl, sym}
 use lib.ListN.{length, take, drop}
 use lib.Seq.{length-take-le}
 use denote.Ref.{now}
 use Rattle.outcome.specs.declared.Refusal.the-variants.{OutsideLimits}
-use Rattle.outcome.specs.declared.Status.the-variants.{Accepted}
 use Rattle.figures.specs.ItemLaws.{length-items}
-use Rattle.fields.specs.Field.{headerSize, valueOf, fieldStatus}
-use Rattle.fields.specs.FieldLaws.{field-room-at, value-at}
-use Rattle.casefile.specs.Layout.{trialTag, trialLength}
-use Rattle.casefile.specs.Decode.{trialStatus, trialOf}
+use Rattle.fields.specs.Field.{valueOf}
+use Rattle.fields.specs.FieldLaws.{value-at}
+use Rattle.casefile.specs.Decode.{trialDue, trialStatus, trialOf}
 use Rattle.casefile.specs.TailLaws.{not-brought}
+use Rattle.casefile.specs.DueLaws.{Checked, checked}
 use Rattle.casefile.specs.AnswerLaws.{answer-stops, answer-goes-on}
 use borrow.Author.Needs.{needs}
 use Rattle.case_reader.proofs.read_trial.Statement.{statement}
@@ -23,31 +21,28 @@ returns : tie.Need-returns
 unfolding trialStatus trialOf
 returns c = let k = c .before .before .args .rounds in rw (not-brought k _ _ (c .if1 .taken)) (record { status = refl; made = λ _. rw (not-brought k _ _ (c .if1 .taken)) })
 
--- the field's refusal by the definition's length, and the room where there is none
+-- the field, checked, and the part that is lent
 module _ (k : tie.After-check-field) where
   abbrev start : tie.Start
   start = k .before .before .before .before
 
-  checked : k .check-field .result ≡ fieldStatus trialTag (trialLength (start .args .n)) (drop (start .args .at) (now (start .args .s)))
-  checked = rw (k .before .trial-length .ensures) at (k .check-field .ensures)
-
-  room : k .check-field .result ≡ Accepted → start .args .at + (headerSize + trialLength (start .args .n)) ≤ length (now (start .args .s))
-  room = field-room-at trialTag (trialLength (start .args .n)) (now (start .args .s)) (start .args .at) checked
+  field : Checked (trialDue (start .args .n)) (now (start .args .s)) (start .args .at) (k .check-field .result)
+  field = checked (trialDue (start .args .n)) (now (start .args .s)) (start .args .at) _ (k .before .trial-length .ensures) (k .check-field .ensures)
 
   taken : length (take (start .args .n) (now (start .args .y))) ≡ start .args .n
   taken = length-take-le (start .args .n) (now (start .args .y)) (start .pre .room)
 
 returns-2 : tie.Need-returns-2
 unfolding trialStatus
-returns-2 c = rw (c .before .before .before .before .if1 .left) (answer-stops (checked (c .before .before)) _ (c .enum-told .given .1))
+returns-2 c = rw (c .before .before .before .before .if1 .left) (answer-stops (field (c .before .before) .is) _ (c .enum-told .given .1))
 
 add-read-i32s : tie.Need-add-read-i32s
 add-read-i32s c = let k = c .before .before in
-    omega (arith, start k .good, room k (c .enum-told2 .given .1))
+    omega (arith, start k .good, field k .room (c .enum-told2 .given .1))
 
 read-i32s-requires : tie.Need-read-i32s-requires
 read-i32s-requires c κs = let k = c .before .before .before in
-    omega (arith, taken k, room k (c .before .enum-told2 .given .1))
+    omega (arith, taken k, field k .room (c .before .enum-told2 .given .1))
 
 returns-3 : tie.Need-returns-3
 unfolding trialStatus trialOf
@@ -57,7 +52,7 @@ returns-3 c =
     let g = start k .args in
     let q = rw (taken k, value-at (now (g .s)) (g .at)) at (w .read-i32s .ensures) in
     rw (k .before .before .if1 .left)
-    (answer-goes-on (checked k) OutsideLimits (w .before .before .enum-told2 .given .1)
+    (answer-goes-on (field k .is) OutsideLimits (w .before .before .enum-told2 .given .1)
     (record { status = q .status; made = λ e. rw (q .made e, length-items _ _ (g .n) (valueOf (drop (g .at) (now (g .s))))) }) (c .check .ensures))
 
 pub read-trial-spec : {M : Type 1} → statement M

@@ -6,7 +6,7 @@ use denote.Ref.{now}
 use Rattle.fields.specs.Field.{endSize}
 use Rattle.casefile.specs.Case.{Case, given}
 use Rattle.casefile.specs.Layout.{rowsEnd, trialSize, longestCase}
-use Rattle.casefile.specs.BlockLaws.{counts}
+use Rattle.casefile.specs.SoundLaws.{counts}
 use Rattle.casefile.specs.CaseLaws.{Good, good, length-encode, longest}
 use Rattle.case_writer.proofs.Whole.{fields-written}
 use borrow.Author.Needs.{needs}

@@ -1,12 +1,12 @@
 -- `decimal::write_bytes` meets its contract. The loop's invariant: the first i bytes of the word are written.
 -- Assumes nothing.
 use mathlib.Core.List.{[], _∷_}
+use mathlib.Core.Path.{refl}
 use Prim.Native.Nat.{_-_}
 use native.Mathlib.Omega.{arith}
 use lib.ListN.{length, getD}
-use lib.Seq.{take-all}
 use Rattle.buffer.specs.WroteLaws.{wrote-one}
-use Rattle.buffer.specs.RunLaws.{joined-each, joined-run, Running, run-begun, run-next, run-turn, run-ended}
+use Rattle.buffer.specs.RunLaws.{joined-each, Running, run-begun, run-next, run-turn, run-joined}
 use Rattle.decimal.proofs.write_bytes.Statement.{statement}
 use Rattle.decimal.proofs.write_bytes.Tie as tie
 
@@ -24,10 +24,8 @@ loop-again c =
 
 returns : tie.Need-returns Inv-loop μ-loop
 returns c =
-    let e = run-ended (c .before .loop .inv) (c .loop-test .left) in
     let w = c .before .before .args .word .now in
-    let q = joined-run (λ x. x ∷ []) 0 w (length w) (omega arith) in
-    rw (← q, take-all (length w) w (omega arith), joined-each w) at (e .wrote)
+    rw (joined-each w) at (run-joined (λ x. x ∷ []) 0 w refl (c .before .loop .inv) (c .loop-test .left))
 
 pub write-bytes-spec : {M : Type 1} → statement M
 write-bytes-spec =

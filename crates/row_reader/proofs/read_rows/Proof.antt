@@ -4,7 +4,7 @@ use Prim.Native.Nat.{_+_, _-_, _≤_}
 use native.Mathlib.Omega.{arith}
 use denote.Ref.{now}
 use borrow.Author.Needs.{needs}
-use Rattle.rows.specs.Block.{Block, block, Holds, SameLengths}
+use Rattle.rows.specs.Block.{Block, block, HasRoom, SameLengths}
 use Rattle.limits.specs.Limits.{mostTanks}
 use Rattle.row_reader.proofs.Rows.{ReadingRows, begun-rows, lengths, next, stopped-rows, past, turn-rows, ended-rows}
 use Rattle.row_reader.proofs.read_rows.Statement.{statement}
@@ -26,7 +26,7 @@ module _ (c : tie.In-loop Inv-loop μ-loop) where
 
   next-row : let l = c .before .loop in
       let r = block (l .a) (l .t) (l .b) (l .f) in
-      (start .args .n ≤ mostTanks) × Holds (l .from + start .args .n) (l .i + 1) r × SameLengths r given
+      (start .args .n ≤ mostTanks) × HasRoom (l .from + start .args .n) (l .i + 1) r × SameLengths r given
   next-row = next _ _ _ _ (c .before .loop .inv) (c .loop-test .taken)
 
 -- where the row has been read

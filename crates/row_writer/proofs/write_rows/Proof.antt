@@ -6,7 +6,7 @@ use borrow.Author.Needs.{needs}
 use lib.ListN.{length}
 use denote.Ref.{now}
 use Rattle.limits.specs.Limits.{mostTanks}
-use Rattle.rows.specs.Block.{block, Holds}
+use Rattle.rows.specs.Block.{block, HasRoom}
 use Rattle.casefile.specs.Layout.{rowSize}
 use Rattle.row_writer.proofs.Writing.{Writing, begun, next, row-room, row-lists, turn, ended}
 use Rattle.row_writer.proofs.write_rows.Statement.{statement}
@@ -24,7 +24,7 @@ module _ (c : tie.In-loop Inv-loop μ-loop) where
   start = c .before .before .before .before .before .before
 
   next-row : let l = c .before .loop in let g = start .args in
-      (g .n ≤ mostTanks) × Holds (l .from + g .n) (l .i + 1) (block (now (g .a)) (now (g .t)) (now (g .b)) (now (g .f))) × (l .p + rowSize (g .n) ≤ length (l .out))
+      (g .n ≤ mostTanks) × HasRoom (l .from + g .n) (l .i + 1) (block (now (g .a)) (now (g .t)) (now (g .b)) (now (g .f))) × (l .p + rowSize (g .n) ≤ length (l .out))
   next-row = next _ _ _ (c .before .loop .inv) (c .loop-test .taken)
 
 add-p : tie.Need-add-p Inv-loop μ-loop

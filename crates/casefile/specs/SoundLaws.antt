@@ -1,20 +1,19 @@
--- Blocks of rows: what is counted and within its limits stays so in a part and in the whole, and a block is its rows put together.
+-- Lists and blocks of rows that are counted and within their limits: they stay so in a part and in the whole, and a block is its rows put together.
 -- Assumes nothing.
-use mathlib.Core.Path.{_≡_, refl, sym, ap, _∙_}
-use mathlib.Core.List.{List, [], _∷_, _++_, append-assoc, append-nil}
+use mathlib.Core.Path.{_≡_, refl}
+use mathlib.Core.List.{List, [], _∷_, _++_}
 use mathlib.Core.Bool.{Bool, true}
-use Prim.Native.Nat.{ℕ, zero, suc, _+_, _*_, _≤_, _<_}
+use Prim.Native.Nat.{ℕ, zero, suc, _+_, _*_}
 use native.Mathlib.Omega.{arith}
-use native.Mathlib.Nat.{suc-mul, zero-mul, mul-le-mul-right}
-use lib.ListN.{length, getD, take, drop, length-append, length-take, length-drop, take-append-drop}
-use lib.Seq.{take-at, drop-at, drop-drop}
+use native.Mathlib.Nat.{zero-mul}
+use lib.ListN.{length, take, drop, length-append, length-take, length-drop, take-append-drop}
 use lib.IntN.{ℤ}
-use Rattle.buffer.specs.Buffer.{onto, all}
-use Rattle.buffer.specs.Laws.{take-onto, holds}
+use Rattle.buffer.specs.Buffer.{all}
 use Rattle.figures.specs.Figures.{upTo, within, allUpTo, allWithin}
 use Rattle.buffer.specs.AllLaws.{and-true, all-append, all-take, all-drop}
 use Rattle.limits.specs.Limits.{coefficientLimit, toleranceLimit, rightSideLimit, rightToleranceLimit}
-use Rattle.rows.specs.Block.{Block, Counts, Holds, RowsRoom, each, front, behind, paired, stacked, over, split, together}
+use Rattle.rows.specs.Block.{Block, Counts, each, front, behind, split, together}
+use Rattle.rows.specs.BlockLaws.{front-stacked, behind-stacked, more, one-more}
 use Rattle.casefile.specs.Case.{rowsFine}
 
 -- ---- a list of k figures that pass a test
@@ -76,39 +75,6 @@ sound-each : (g : (X : Type 0) → ℕ → List X → List X) (k m : ℕ) {k₁ 
     → SoundBlock k₁ m₁ r → SoundBlock k₂ m₂ (each g k m r)
 sound-each g k m r h j s = record { a = h ℤ _ _ (s .a); t = h ℕ _ _ (s .t); b = j ℤ _ _ (s .b); f = j ℕ _ _ (s .f) }
 
--- ---- two blocks put together
-
--- what g takes out of two lists put together by c, of which it knows the first one's count, it takes out of two blocks
-each-paired : (g : (X : Type 0) → ℕ → List X → List X) (c p : (X : Type 0) → List X → List X → List X)
-    → ((X : Type 0) (k : ℕ) (l m : List X) → length l ≡ k → g X k (c X l m) ≡ p X l m)
-    → {k m : ℕ} (r s : Block) → Counts k m r → each g k m (paired c r s) ≡ paired p r s
-each-paired g c p h {k} {m} r s e =
-    rw (
-      h ℤ k (r .coefficients) (s .coefficients) (e .la),
-      h ℕ k (r .tolerances) (s .tolerances) (e .lt),
-      h ℤ m (r .right-sides) (s .right-sides) (e .lb),
-      h ℕ m (r .right-tolerances) (s .right-tolerances) (e .lf),
-    )
-
-module _ {k m : ℕ} (r s : Block) (e : Counts k m r) where
-  front-stacked : front k m (stacked r s) ≡ r
-  front-stacked = each-paired (λ X. take) (λ X. _++_) (λ X l m. l) (λ X k l m. take-at l m k) r s e
-
-  behind-stacked : behind k m (stacked r s) ≡ s
-  behind-stacked = each-paired (λ X. drop) (λ X. _++_) (λ X l m. m) (λ X k l m. drop-at l m k) r s e
-
-  pub front-over : front k m (over r s) ≡ r
-  front-over = each-paired (λ X. take) (λ X. onto) (λ X l m. l) (λ X k l m. take-onto l m k) r s e
-
-  pub room-over : Holds k m (over r s)
-  room-over =
-      record {
-        la = holds k (r .coefficients) (s .coefficients) (e .la);
-        lt = holds k (r .tolerances) (s .tolerances) (e .lt);
-        lb = holds m (r .right-sides) (s .right-sides) (e .lb);
-        lf = holds m (r .right-tolerances) (s .right-tolerances) (e .lf);
-      }
-
 -- ---- its rows, n tanks each
 
 pub data Rows (n : ℕ) : List Block → Type 0 where
@@ -116,50 +82,17 @@ pub data Rows (n : ℕ) : List Block → Type 0 where
   one : {r : Block} {rs : List Block} → SoundBlock n 1 r → Rows n rs → Rows n (r ∷ rs)
 
 module _ (n : ℕ) where
-  -- what m + 1 rows have, and m rows behind the first
-  more : (m : ℕ) → suc m * n ≡ n + m * n
-  more m = omega (arith, suc-mul m n)
-
-  one-more : (m : ℕ) → suc m ≡ 1 + m
-  one-more m = omega arith
-
   module _ (m : ℕ) (r : Block) (s : SoundBlock (suc m * n) (suc m) r) where
     sound-front : SoundBlock n 1 (front n 1 r)
-    sound-front = sound-each (λ X. take) n 1 r (λ X p l h. front-sound n (m * n) (more m) h) (λ X p l h. front-sound 1 m (one-more m) h) s
+    sound-front = sound-each (λ X. take) n 1 r (λ X p l h. front-sound n (m * n) (more n m) h) (λ X p l h. front-sound 1 m (one-more n m) h) s
 
     sound-behind : SoundBlock (m * n) m (behind n 1 r)
-    sound-behind = sound-each (λ X. drop) n 1 r (λ X p l h. behind-sound n (m * n) (more m) h) (λ X p l h. behind-sound 1 m (one-more m) h) s
-
-  -- row i of a block
-  abbrev pub rowIn : Block → ℕ → Block
-  rowIn r i = front n 1 (behind (i * n) i r)
-
-  behind-more : (i : ℕ) (r : Block) → behind (i * n) i (behind n 1 r) ≡ behind (suc i * n) (suc i) r
-  behind-more i r =
-      rw (
-        drop-drop (i * n) n (r .coefficients),
-        drop-drop (i * n) n (r .tolerances),
-        drop-drop i 1 (r .right-sides),
-        drop-drop i 1 (r .right-tolerances),
-        more i,
-        one-more i,
-      )
-
-  pub split-at : (m : ℕ) (r : Block) (i : ℕ) (d : Block) → i < m → getD (split n m r) i d ≡ rowIn r i
-  unfolding split
-  split-at zero r i d h = absurd (omega arith)
-  split-at (suc m) r zero d h = rw (zero-mul n)
-  split-at (suc m) r (suc i) d h = split-at m (behind n 1 r) i d (omega arith) ∙ ap (front n 1) (behind-more i r)
+    sound-behind = sound-each (λ X. drop) n 1 r (λ X p l h. behind-sound n (m * n) (more n m) h) (λ X p l h. behind-sound 1 m (one-more n m) h) s
 
   pub split-sound : (m : ℕ) (r : Block) → SoundBlock (m * n) m r → Rows n (split n m r)
   unfolding split
   split-sound zero r s = none
   split-sound (suc m) r s = one (sound-front m r s) (split-sound m (behind n 1 r) (sound-behind m r s))
-
-  pub length-split : (m : ℕ) (r : Block) → length (split n m r) ≡ m
-  unfolding split
-  length-split zero r = refl
-  length-split (suc m) r = ap suc (length-split m (behind n 1 r))
 
   -- the rows of a block are the block, and the rows that a block was made of are its rows
   pub together-split : (m : ℕ) (r : Block) → SoundBlock (m * n) m r → together (split n m r) ≡ r
@@ -184,44 +117,10 @@ module _ (n : ℕ) where
   together-sound none = record { a = none-sound (zero-mul n); t = none-sound (zero-mul n); b = none-sound refl; f = none-sound refl }
   together-sound (one {rs = rs} s g) =
       let w = together-sound g in
-      let e = more (length rs) in
-      let o = one-more (length rs) in
+      let e = more n (length rs) in
+      let o = one-more n (length rs) in
       record { a = stacked-sound e (s .a) (w .a); t = stacked-sound e (s .t) (w .t); b = stacked-sound o (s .b) (w .b); f = stacked-sound o (s .f) (w .f) }
-
--- one row more
-pub together-more : (rs : List Block) (r : Block) → together (rs ++ (r ∷ [])) ≡ stacked (together rs) r
-together-more [] r = rw (append-nil (r .coefficients), append-nil (r .tolerances), append-nil (r .right-sides), append-nil (r .right-tolerances))
-together-more (q ∷ rs) r =
-    let w = together rs in
-    rw (
-      together-more rs r,
-      append-assoc (q .coefficients) (w .coefficients) (r .coefficients),
-      append-assoc (q .tolerances) (w .tolerances) (r .tolerances),
-      append-assoc (q .right-sides) (w .right-sides) (r .right-sides),
-      append-assoc (q .right-tolerances) (w .right-tolerances) (r .right-tolerances),
-    )
 
 pub rows-more : {n : ℕ} {rs : List Block} {r : Block} → Rows n rs → SoundBlock n 1 r → Rows n (rs ++ (r ∷ []))
 rows-more none s = one s none
 rows-more (one q g) s = one q (rows-more g s)
-
--- ---- a loop over n rows of lists that hold them: i are done, and the next begins at `from`
-
-pub record AtRow (n : ℕ) (lists : Block) (i from : ℕ) : Type 0 where
-  pub room : RowsRoom n lists
-  pub place : from ≡ i * n
-
-module _ {n : ℕ} {lists : Block} where
-  pub first-row : RowsRoom n lists → AtRow n lists 0 0
-  first-row w = record { room = w; place = sym (zero-mul n) }
-
-  module _ {i from : ℕ} (r : AtRow n lists i from) where
-    -- the rows so far find room, and so does the next
-    pub rows-held : i ≤ n → Holds from i lists
-    rows-held h = omega (arith, r .room .room, r .place, mul-le-mul-right n h)
-
-    pub row-held : i < n → Holds (from + n) (i + 1) lists
-    row-held h = omega (arith, r .room .room, r .place, mul-le-mul-right n h, suc-mul i n)
-
-    pub next-row : AtRow n lists (i + 1) (from + n)
-    next-row = record { room = r .room; place = omega (arith, r .place, suc-mul i n) }
