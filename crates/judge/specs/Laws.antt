@@ -116,10 +116,10 @@ module _ (s : System) (t : Trial) (h : s .n ≤ mostTanks) where
   unfolding deciding-place deciding
   deciding-is = first-greatest-cong _ _ (s .n) (λ i l. ap₂ factor (at-residuals i l) (at-reaches i l))
 
-  -- the judgement is concluded from the standing
-  pub judgement-concluded : concluded (s .n) (standing s t) ≡ judgement s t
-  unfolding judgement
-  judgement-concluded = refl
+-- the judgement is concluded from the standing
+pub judgement-concluded : (s : System) (t : Trial) → concluded (s .n) (standing s t) ≡ judgement s t
+unfolding judgement
+judgement-concluded s t = refl
 
 -- the standing, from residuals and reaches that were formed each from its own part of the system
 pub measured-by-parts : (n : ℕ) (A : List ℤ) (E : List ℕ) (b : List ℤ) (f : List ℕ) (t : Trial) → n ≤ mostTanks → (u : ℕ) (R : List ℤ) (T : List ℕ)

@@ -2,7 +2,6 @@
 use mathlib.Core.Path.{_≡_, refl, ap, _∙_}
 use mathlib.Core.List.{List}
 use Prim.Native.Nat.{ℕ, _≤_}
-use native.Mathlib.Omega.{arith}
 use lib.IntN.{ℤ}
 use Rattle.limits.specs.Limits.{mostTanks}
 use Rattle.integers.specs.Tables.{zeros-within}
@@ -30,7 +29,7 @@ pub kept-concluded : (s : System) (D n : ℕ) (t : Status) (p : Progress) (j : J
     → record { status = t; rounds = p .rounds; trial = p .trial; judgement = j } ≡ kept s D t p
 kept-concluded s D n t p j e h m q =
     let c : concluded n (p .standing) ≡ judgement s (trial (s .n) D (p .trial)) =
-    rw (← e, m .standing-is) (judgement-concluded s (trial (s .n) D (p .trial)) (omega arith)) in
+    rw (← e, m .standing-is) (judgement-concluded s (trial (s .n) D (p .trial))) in
     ap (λ (k : Judgement). record { status = t; rounds = p .rounds; trial = p .trial; judgement = k }) (q ∙ c)
 
 -- ---- by the elimination's outcome
