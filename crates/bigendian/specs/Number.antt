@@ -19,7 +19,7 @@ unfoldable pub bytes : ℕ → ℕ → List ℕ
 bytes zero x = []
 bytes (suc w) x = x / 256 ^ w ∷ bytes w (x % 256 ^ w)
 
--- a list whose elements are bytes
+-- a byte, and a list whose elements are bytes
 abbrev pub byte : ℕ → Bool
 byte x = ltb x 256
 

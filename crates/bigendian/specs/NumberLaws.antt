@@ -13,7 +13,7 @@ use lib.Pow.{pow-add}
 use Rattle.buffer.specs.Buffer.{onto, all}
 use Rattle.buffer.specs.AllLaws.{and-true, all-append, all-take, all-drop}
 use Rattle.buffer.specs.Laws.{part, put}
-use Rattle.buffer.specs.WroteLaws.{wrote-two}
+use Rattle.buffer.specs.WroteLaws.{onto-two}
 use Rattle.bigendian.specs.Number.{be, bytes, byte, Bytes}
 
 none : Bytes []
@@ -41,7 +41,7 @@ unfolding be bytes
 be-bytes zero n h = sym (lt-one h)
 be-bytes (suc w) n h = rw (length-bytes w (n % 256 ^ w), be-bytes w (n % 256 ^ w) (mod-lt n (pos256 w))) (div-add-mod' n (256 ^ w))
 
-pub be-lt : (s : List ℕ) → Bytes s → be s < 256 ^ length s
+be-lt : (s : List ℕ) → Bytes s → be s < 256 ^ length s
 unfolding be
 be-lt [] b = lit< tt
 be-lt (x ∷ s) b =
@@ -109,7 +109,7 @@ bytes-two v w x h =
 pub written-two : (v w x : ℕ) (xs₀ xs ys : List ℕ) → x < 256 ^ (v + w) → xs ≡ onto (bytes v (x / 256 ^ w)) xs₀
     → ys ≡ onto (bytes w (x % 256 ^ w)) (part xs v) → put xs v ys ≡ onto (bytes (v + w) x) xs₀
 written-two v w x xs₀ xs ys h e f =
-    rw (bytes-two v w x h) (wrote-two (bytes v (x / 256 ^ w)) (bytes w (x % 256 ^ w)) xs₀ e (length-bytes v _) f)
+    rw (bytes-two v w x h) (onto-two (bytes v (x / 256 ^ w)) (bytes w (x % 256 ^ w)) xs₀ e (length-bytes v _) f)
 
 -- ---- a single byte
 

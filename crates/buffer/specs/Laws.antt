@@ -17,7 +17,7 @@ module _ {X : Type 0} where
   pub length-onto-at : (at : ℕ) (b out : List X) → at + length b ≤ length out → length (onto-at at b out) ≡ length out
   length-onto-at at b out h = simp (length-append, length-drop, length-take) (omega arith)
 
-  -- the empty text changes nothing
+  -- the empty list changes nothing
   pub onto-at-none : (at : ℕ) (out : List X) → onto-at at [] out ≡ out
   onto-at-none at out = take-append-drop at out
 
@@ -89,7 +89,7 @@ module _ {X : Type 0} where
   abbrev pub put : List X → ℕ → List X → List X
   put xs at ys = putMid at (length xs - at) xs ys
 
-  pub part-is : (xs : List X) (at : ℕ) → part xs at ≡ drop at xs
+  part-is : (xs : List X) (at : ℕ) → part xs at ≡ drop at xs
   part-is xs at = take-all (length xs - at) (drop at xs) (simp length-drop (omega arith))
 
   past : (xs : List X) (at : ℕ) → drop (length xs - at) (drop at xs) ≡ []

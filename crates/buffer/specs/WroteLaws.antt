@@ -37,26 +37,26 @@ room-next {a} {b} {out₀} {out} {at} h w =
     let n : length out ≡ length out₀ = wrote-same (room-front b h) w in
     record { room = omega (arith, length-append a b, w .place, h .room) }
 
--- ---- a run of writes, over the list of its texts
+-- ---- a run of writes, over the list of its pieces
 
-pub record Rooms (texts : List (List ℕ)) (at : ℕ) (out : List ℕ) : Type 0 where
-  pub whole : Room (concat texts) at out
+pub record Rooms (pieces : List (List ℕ)) (at : ℕ) (out : List ℕ) : Type 0 where
+  pub whole : Room (concat pieces) at out
 
-pub record Wrotes (texts : List (List ℕ)) (at : ℕ) (before : List ℕ) (next : ℕ) (after : List ℕ) : Type 0 where
-  pub whole : Wrote (concat texts) at before next after
+pub record Wrotes (pieces : List (List ℕ)) (at : ℕ) (before : List ℕ) (next : ℕ) (after : List ℕ) : Type 0 where
+  pub whole : Wrote (concat pieces) at before next after
 
-pub room-here : {text : List ℕ} {texts : List (List ℕ)} {at : ℕ} {out : List ℕ} → Rooms (text ∷ texts) at out → Room text at out
-room-here {text} {texts} h = room-front (concat texts) (h .whole)
+pub room-here : {piece : List ℕ} {pieces : List (List ℕ)} {at : ℕ} {out : List ℕ} → Rooms (piece ∷ pieces) at out → Room piece at out
+room-here {piece} {pieces} h = room-front (concat pieces) (h .whole)
 
-pub room-after : {text : List ℕ} {texts : List (List ℕ)} {at next : ℕ} {out₀ out : List ℕ} → Rooms (text ∷ texts) at out₀ → Wrote text at out₀ next out → Rooms texts next out
+pub room-after : {piece : List ℕ} {pieces : List (List ℕ)} {at next : ℕ} {out₀ out : List ℕ} → Rooms (piece ∷ pieces) at out₀ → Wrote piece at out₀ next out → Rooms pieces next out
 room-after h w = record { whole = room-next (h .whole) w }
 
-pub wrote-last : {text : List ℕ} {at next : ℕ} {out₀ out : List ℕ} → Wrote text at out₀ next out → Wrotes (text ∷ []) at out₀ next out
-wrote-last {text} w = record { whole = rw (append-nil text) w }
+pub wrote-last : {piece : List ℕ} {at next : ℕ} {out₀ out : List ℕ} → Wrote piece at out₀ next out → Wrotes (piece ∷ []) at out₀ next out
+wrote-last {piece} w = record { whole = rw (append-nil piece) w }
 
-pub wrote-first : {text : List ℕ} {texts : List (List ℕ)} {at next last : ℕ} {out₀ out₁ out₂ : List ℕ} → Rooms (text ∷ texts) at out₀
-    → Wrote text at out₀ next out₁ → Wrotes texts next out₁ last out₂ → Wrotes (text ∷ texts) at out₀ last out₂
-wrote-first {text} {texts} h v w =
+pub wrote-first : {piece : List ℕ} {pieces : List (List ℕ)} {at next last : ℕ} {out₀ out₁ out₂ : List ℕ} → Rooms (piece ∷ pieces) at out₀
+    → Wrote piece at out₀ next out₁ → Wrotes pieces next out₁ last out₂ → Wrotes (piece ∷ pieces) at out₀ last out₂
+wrote-first {piece} {pieces} h v w =
     record { whole = wrote-then (omega (arith, room-here h .room)) v (w .whole) }
 
 -- ---- over the front of a buffer, and of the part that is left of it
@@ -74,6 +74,6 @@ pub wrote-more : (b : List ℕ) (next : ℕ) {done out₀ out ys : List ℕ} {at
 wrote-more b next {out = out} w e l = wrote-then (omega arith) w (wrote-lent b out e l)
 
 -- the two writes alone
-pub wrote-two : (a b out₀ : List ℕ) {out ys : List ℕ} {at : ℕ} → out ≡ onto a out₀ → length a ≡ at → ys ≡ onto b (part out at)
+pub onto-two : (a b out₀ : List ℕ) {out ys : List ℕ} {at : ℕ} → out ≡ onto a out₀ → length a ≡ at → ys ≡ onto b (part out at)
     → put out at ys ≡ onto (a ++ b) out₀
-wrote-two a b out₀ e l f = wrote-more b _ (wrote-front a out₀ e l) f refl .bytes
+onto-two a b out₀ e l f = wrote-more b _ (wrote-front a out₀ e l) f refl .bytes

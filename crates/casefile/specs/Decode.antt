@@ -17,7 +17,7 @@ use Rattle.fields.specs.Field.{endTag, endLength, endSize, valueOf, afterField,
 use Rattle.limits.specs.Limits.{mostTanks, mostCoefficients, trialLimit}
 use Rattle.rows.specs.Block.{Block, block, over, together}
 use Rattle.casefile.specs.Case.{Case, caseWith, given, headFine, whereBrought, rowsFine}
-use Rattle.casefile.specs.Layout.{headTag, headLength, headValue, rowsAt, rowTag, rowLength, rowSize, rowsEnd, rowBytes, trialTag, trialKind, trialLength, trialSize}
+use Rattle.casefile.specs.Layout.{headTag, headLength, headValue, nIn, exponentIn, roundsIn, rowsAt, rowTag, rowLength, rowSize, rowsEnd, rowBytes, trialTag, trialKind, trialLength, trialSize}
 use Rattle.casefile.specs.declared.Case.{Case as Stored}
 use Rattle.casefile.specs.declared.Reading.{Reading}
 
@@ -49,7 +49,7 @@ headDue =
     record {
       tag = headTag;
       len = headLength;
-      read = λ v. record { n = getD v 0 0; exponent = getD v 1 0; rounds = getD v 2 0 };
+      read = λ v. record { n = getD v nIn 0; exponent = getD v exponentIn 0; rounds = getD v roundsIn 0 };
       fine = λ h. headFine (h .n) (h .exponent) (h .rounds);
       write = λ h. headValue (h .n) (h .exponent) (h .rounds);
     }

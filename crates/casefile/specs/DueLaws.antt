@@ -1,6 +1,6 @@
 -- A field that is due, once for the head, a row and the trial: one that was written is read back, one that is not refused is what a writer writes, and
 -- where it ends. Assumes nothing.
-use mathlib.Core.Path.{_≡_, ap, _∙_}
+use mathlib.Core.Path.{_≡_, refl, ap, _∙_}
 use mathlib.Core.Bool.{true}
 use mathlib.Core.List.{List, _++_}
 use Prim.Native.Nat.{ℕ, _+_, _^_, _≤_, _<_}
@@ -12,7 +12,7 @@ use Rattle.outcome.specs.Laws.{first-check}
 use Rattle.bigendian.specs.Number.{Bytes}
 use Rattle.bigendian.specs.NumberLaws.{bytes-drop}
 use Rattle.fields.specs.Field.{lengthSize, headerSize, field, valueOf, afterField, fieldStatus}
-use Rattle.fields.specs.FieldLaws.{field-value, field-after, field-accepted, field-room, value-room, field-same, field-room-at}
+use Rattle.fields.specs.FieldLaws.{field-value, field-after, field-accepted, value-room, field-same, field-room-at}
 use Rattle.casefile.specs.Decode.{Due, dueAt, dueStatus}
 
 -- bytes that were written are read back as x, whatever follows them
@@ -43,15 +43,16 @@ module _ {A : Type 0} (d : Due A) (s : List ℕ) (accepted : dueStatus d s ≡ A
   pub due-fine : d .fine (dueAt d s) ≡ true
   due-fine = two .1
 
-  pub due-room : headerSize + d .len ≤ length s
-  due-room = field-room (d .tag) (d .len) s (two .0)
-
   -- where a value's bytes are read and written back
   pub due-same : Bytes s → ((v : List ℕ) → Bytes v → d .len ≤ length v → (length (d .write (d .read v)) ≡ d .len) × (d .write (d .read v) ++ drop (d .len) v ≡ v))
       → field (d .tag) (d .write (dueAt d s)) ++ afterField (d .len) s ≡ s
   due-same bs same =
       let w = same (valueOf s) (bytes-drop headerSize bs) (value-room (d .tag) (d .len) s (two .0)) in
       field-same (d .tag) (d .len) s (two .0) bs (d .write (dueAt d s)) (w .0) (w .1)
+
+-- where it stands in the whole input
+pub due-room-at : {A : Type 0} (d : Due A) (s : List ℕ) (at : ℕ) → dueStatus d (drop at s) ≡ Accepted → at + (headerSize + d .len) ≤ length s
+due-room-at d s at e = field-room-at (d .tag) (d .len) s at refl (two d (drop at s) e .0)
 
 -- the check of a field that is due at a place, by the length that was computed
 pub record Checked {A : Type 0} (d : Due A) (s : List ℕ) (at : ℕ) (x : Status) : Type 0 where

@@ -23,16 +23,17 @@ headValue n exponent rounds = n ∷ exponent ∷ rounds ∷ []
 abbrev pub headField : ℕ → ℕ → ℕ → List ℕ
 headField n exponent rounds = field headTag (headValue n exponent rounds)
 
--- where they stand, and where the first row does
-abbrev pub nAt : ℕ
-nAt = headerSize
+-- where they stand in the value
+abbrev pub nIn : ℕ
+nIn = 0
 
-abbrev pub exponentAt : ℕ
-exponentAt = nAt + 1
+abbrev pub exponentIn : ℕ
+exponentIn = nIn + 1
 
-abbrev pub roundsAt : ℕ
-roundsAt = exponentAt + 1
+abbrev pub roundsIn : ℕ
+roundsIn = exponentIn + 1
 
+-- where the first row stands
 abbrev pub rowsAt : ℕ
 rowsAt = headerSize + headLength
 

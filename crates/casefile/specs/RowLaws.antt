@@ -18,7 +18,7 @@ use Rattle.limits.specs.Limits.{mostTanks}
 use Rattle.rows.specs.Block.{Block, Counts}
 use Rattle.casefile.specs.Layout.{rowTag, rowLength, rowSize, rightSideAt, rightToleranceAt, rowBytes, rowField}
 use Rattle.casefile.specs.Decode.{rowOf, rowAt, rowDue, rowStatus}
-use Rattle.casefile.specs.DueLaws.{DueBack, due-back, due-fine, due-room, due-same}
+use Rattle.casefile.specs.DueLaws.{DueBack, due-back, due-fine, due-room-at, due-same}
 use Rattle.casefile.specs.KindLaws.{coefficient-lawful, tolerance-lawful, right-side-lawful, right-tolerance-lawful}
 use Rattle.casefile.specs.SoundLaws.{SoundBlock, counts, sound, sound-fine}
 
@@ -104,4 +104,4 @@ module _ (n : ℕ) (s : List ℕ) (accepted : rowStatus n s ≡ Accepted) where
 -- where it stands in the whole input
 pub row-room : (n : ℕ) (s : List ℕ) (at : ℕ) → rowStatus n (drop at s) ≡ Accepted → at + rowSize n ≤ length s
 unfolding rowStatus
-row-room n s at e = omega (arith, rw (length-drop at s) at (due-room (rowDue n) (drop at s) e))
+row-room n s at e = due-room-at (rowDue n) s at e

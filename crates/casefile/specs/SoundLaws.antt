@@ -13,7 +13,7 @@ use Rattle.figures.specs.Figures.{upTo, within, allUpTo, allWithin}
 use Rattle.buffer.specs.AllLaws.{and-true, all-append, all-take, all-drop}
 use Rattle.limits.specs.Limits.{coefficientLimit, toleranceLimit, rightSideLimit, rightToleranceLimit}
 use Rattle.rows.specs.Block.{Block, Counts, each, front, behind, split, together}
-use Rattle.rows.specs.BlockLaws.{front-stacked, behind-stacked, more, one-more}
+use Rattle.rows.specs.BlockLaws.{front-stacked, behind-stacked, figures-more, rows-one-more}
 use Rattle.casefile.specs.Case.{rowsFine}
 
 -- ---- a list of k figures that pass a test
@@ -84,10 +84,10 @@ pub data Rows (n : ℕ) : List Block → Type 0 where
 module _ (n : ℕ) where
   module _ (m : ℕ) (r : Block) (s : SoundBlock (suc m * n) (suc m) r) where
     sound-front : SoundBlock n 1 (front n 1 r)
-    sound-front = sound-each (λ X. take) n 1 r (λ X p l h. front-sound n (m * n) (more n m) h) (λ X p l h. front-sound 1 m (one-more n m) h) s
+    sound-front = sound-each (λ X. take) n 1 r (λ X p l h. front-sound n (m * n) (figures-more n m) h) (λ X p l h. front-sound 1 m (rows-one-more m) h) s
 
     sound-behind : SoundBlock (m * n) m (behind n 1 r)
-    sound-behind = sound-each (λ X. drop) n 1 r (λ X p l h. behind-sound n (m * n) (more n m) h) (λ X p l h. behind-sound 1 m (one-more n m) h) s
+    sound-behind = sound-each (λ X. drop) n 1 r (λ X p l h. behind-sound n (m * n) (figures-more n m) h) (λ X p l h. behind-sound 1 m (rows-one-more m) h) s
 
   pub split-sound : (m : ℕ) (r : Block) → SoundBlock (m * n) m r → Rows n (split n m r)
   unfolding split
@@ -117,8 +117,8 @@ module _ (n : ℕ) where
   together-sound none = record { a = none-sound (zero-mul n); t = none-sound (zero-mul n); b = none-sound refl; f = none-sound refl }
   together-sound (one {rs = rs} s g) =
       let w = together-sound g in
-      let e = more n (length rs) in
-      let o = one-more n (length rs) in
+      let e = figures-more n (length rs) in
+      let o = rows-one-more (length rs) in
       record { a = stacked-sound e (s .a) (w .a); t = stacked-sound e (s .t) (w .t); b = stacked-sound o (s .b) (w .b); f = stacked-sound o (s .f) (w .f) }
 
 pub rows-more : {n : ℕ} {rs : List Block} {r : Block} → Rows n rs → SoundBlock n 1 r → Rows n (rs ++ (r ∷ []))

@@ -5,7 +5,7 @@ use mathlib.Core.List.{List, [], _∷_, _++_, append-nil}
 use Prim.Native.Nat.{ℕ, zero, suc, _+_, _≤_, _<_}
 use native.Mathlib.Omega.{arith}
 use native.Mathlib.Nat.{le-of-eq}
-use lib.ListN.{length, drop, length-drop, drop-of-length-le}
+use lib.ListN.{length, drop, drop-of-length-le}
 use lib.IntN.{ℤ}
 use borrow.Author.Tests.{eqb-true}
 use Rattle.outcome.specs.declared.Refusal.the-variants.{TrailingBytes}
@@ -22,7 +22,7 @@ use Rattle.limits.specs.Limits.{mostTanks, trialLimit}
 use Rattle.casefile.specs.Case.{whereBrought, trialCount}
 use Rattle.casefile.specs.Layout.{trialTag, trialKind, trialLength, trialSize, trialField, trialBytes}
 use Rattle.casefile.specs.Decode.{trialDue, trialStatus, trialOf, endStatus}
-use Rattle.casefile.specs.DueLaws.{FieldBack, due-back, due-fine, due-room, due-same}
+use Rattle.casefile.specs.DueLaws.{FieldBack, due-back, due-fine, due-room-at, due-same}
 use Rattle.casefile.specs.KindLaws.{trial-lawful}
 use Rattle.casefile.specs.SoundLaws.{Sound}
 
@@ -75,7 +75,7 @@ trial-same (suc k) n s e bs = refl
 pub trial-place : (k n : ℕ) (s : List ℕ) (at b : ℕ) → at < b → length s < b → trialStatus k n (drop at s) ≡ Accepted → at + trialSize k n < b
 unfolding trialStatus
 trial-place zero n s at b h l e =
-    omega (arith, rw (length-drop at s) at (due-room (trialDue n) (drop at s) e))
+    omega (arith, due-room-at (trialDue n) s at e)
 trial-place (suc k) n s at b h l e = omega arith
 
 -- ---- the end

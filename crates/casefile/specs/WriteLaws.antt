@@ -40,7 +40,7 @@ filed-count Accepted bytes out m e =
 filed-count (Refused r) bytes out m e = no-count r m e
 
 -- a refusal is that of the status
-pub filed-refusal : (t : Status) (bytes out : List ℕ) (r : Refusal) → filed t bytes out .outcome ≡ said (RefusedBy r) → t ≡ Refused r
+filed-refusal : (t : Status) (bytes out : List ℕ) (r : Refusal) → filed t bytes out .outcome ≡ said (RefusedBy r) → t ≡ Refused r
 filed-refusal Accepted bytes out r e = no-count r (length bytes) (sym e)
 filed-refusal (Refused q) bytes out r e = ap Refused (same-refusal q r e)
 

@@ -14,7 +14,7 @@ use Rattle.outcome.specs.declared.Status.the-variants.{Accepted}
 use Rattle.outcome.specs.Laws.{check-accepted, check-then}
 use Rattle.buffer.specs.Buffer.{onto}
 use Rattle.buffer.specs.Laws.{part, put}
-use Rattle.buffer.specs.WroteLaws.{wrote-two}
+use Rattle.buffer.specs.WroteLaws.{onto-two}
 use Rattle.bigendian.specs.Number.{be, bytes, Bytes}
 use Rattle.bigendian.specs.NumberLaws.{be-bytes, length-bytes, bytes-of, bytes-drop}
 use Rattle.fields.specs.Field.{lengthAt, lengthSize, header, headerSize, field, tagOf, lengthOf, valueOf, afterField, fieldStatus}
@@ -34,7 +34,7 @@ field-is-header tag v len e = rw e
 pub field-written : (tag len : ℕ) (v out x : List ℕ) {y : List ℕ} → length v ≡ len → x ≡ onto (header tag len) out → y ≡ onto v (part x headerSize)
     → put x headerSize y ≡ onto (field tag v) out
 field-written tag len v out x {y} l e f =
-    rw (← (field-is-header tag v len l)) (wrote-two (header tag len) v out e (length-header tag len) f)
+    rw (← (field-is-header tag v len l)) (onto-two (header tag len) v out e (length-header tag len) f)
 
 -- the value stored byte by byte behind the header
 pub field-stored : (tag : ℕ) (v out l : List ℕ) → headerSize + length v ≤ length l → l ≡ onto (header tag (length v)) out

@@ -1,4 +1,4 @@
--- How long a record's parts are. Assumes nothing.
+-- How long a record's parts are, the record as its fields one behind the other, and a field whose value begins with a flag, stored. Assumes nothing.
 use mathlib.Core.Path.{_≡_, ap, _∙_}
 use mathlib.Core.Bool.{Bool}
 use mathlib.Core.List.{List, [], _∷_, _++_, append-assoc, append-nil}
@@ -15,7 +15,7 @@ use Rattle.figures.specs.FigureLaws.{length-figure}
 use Rattle.fields.specs.Field.{headerSize, header, field, endTag, endField}
 use Rattle.fields.specs.FieldLaws.{length-field, field-stored}
 use Rattle.judge.specs.declared.Judgement.{Judgement}
-use Rattle.recordfile.specs.Layout.{pairSize, answerAt, rowsAt, factorAt, endAt, verdictTag, answerTag, rowsTag, factorTag, flag, answerBytes, pairAt, verdictField, answerField, rowsField, factorField, judgedFields, recordOf, recordLength, longestRecord}
+use Rattle.recordfile.specs.Layout.{answerLength, pairSize, rowsLength, answerAt, rowsAt, factorAt, endAt, verdictTag, answerTag, rowsTag, factorTag, flag, answerBytes, pairAt, verdictField, answerField, rowsField, factorField, judgedFields, recordOf, recordLength, longestRecord}
 
 pub length-answer : (Y : List ℤ) (j : ℕ) → length (answerBytes Y j) ≡ i32 .width
 length-answer Y j = length-figure i32 (getD Y j (pos 0))
@@ -25,6 +25,12 @@ length-pair R T i =
     let r = getD R i (pos 0) in
     let t = getD T i 0 in
     length-append (figureBytes i64 r) (figureBytes u64 t) ∙ omega (arith, length-figure i64 r, length-figure u64 t)
+
+pub length-answers : (n : ℕ) (Y : List ℤ) → length (answerField n Y) ≡ headerSize + answerLength n
+length-answers n Y = length-field answerTag (run n (answerBytes Y)) ∙ rw (length-run (i32 .width) (answerBytes Y) (length-answer Y) n)
+
+pub length-rows : (n : ℕ) (R : List ℤ) (T : List ℕ) → length (rowsField n R T) ≡ headerSize + rowsLength n
+length-rows n R T = length-field rowsTag (run n (pairAt R T)) ∙ rw (length-run pairSize (pairAt R T) (length-pair R T) n)
 
 -- ---- the fields one behind the other
 
@@ -43,14 +49,11 @@ module _ (n rounds : ℕ) (Y : List ℤ) (j : Judgement) where
 
   pub length-two : length first-two ≡ rowsAt n
   length-two =
-      length-append first-one (answerField n Y)
-      ∙ omega (arith, length-one, length-field answerTag (run n (answerBytes Y)), length-run (i32 .width) (answerBytes Y) (length-answer Y) n)
+      length-append first-one (answerField n Y) ∙ omega (arith, length-one, length-answers n Y)
 
   pub length-three : length first-three ≡ factorAt n
   length-three =
-      let p = pairAt (j .residuals) (j .reaches) in
-      length-append first-two (rowsField n (j .residuals) (j .reaches))
-      ∙ omega (arith, length-two, length-field rowsTag (run n p), length-run pairSize p (length-pair (j .residuals) (j .reaches)) n)
+      length-append first-two (rowsField n (j .residuals) (j .reaches)) ∙ omega (arith, length-two, length-rows n (j .residuals) (j .reaches))
 
   abbrev pub first-four : List ℕ
   first-four = first-three ++ factorField (j .none) (j .decides)

@@ -46,13 +46,13 @@ module _ {k m : ℕ} (r s : Block) (e : Counts k m r) where
 
 -- ---- its rows, n tanks each
 
-module _ (n : ℕ) where
-  -- what m + 1 rows have, and m rows behind the first
-  pub more : (m : ℕ) → suc m * n ≡ n + m * n
-  more m = omega (arith, suc-mul m n)
+-- what m + 1 rows have, and m rows behind the first
+pub rows-one-more : (m : ℕ) → suc m ≡ 1 + m
+rows-one-more m = omega arith
 
-  pub one-more : (m : ℕ) → suc m ≡ 1 + m
-  one-more m = omega arith
+module _ (n : ℕ) where
+  pub figures-more : (m : ℕ) → suc m * n ≡ n + m * n
+  figures-more m = omega (arith, suc-mul m n)
 
   behind-more : (i : ℕ) (r : Block) → behind (i * n) i (behind n 1 r) ≡ behind (suc i * n) (suc i) r
   behind-more i r =
@@ -61,8 +61,8 @@ module _ (n : ℕ) where
         drop-drop (i * n) n (r .tolerances),
         drop-drop i 1 (r .right-sides),
         drop-drop i 1 (r .right-tolerances),
-        more i,
-        one-more i,
+        figures-more i,
+        rows-one-more i,
       )
 
   pub split-at : (m : ℕ) (r : Block) (i : ℕ) (d : Block) → i < m → getD (split n m r) i d ≡ rowIn n r i

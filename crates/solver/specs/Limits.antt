@@ -19,7 +19,7 @@ scale-limit = 10 ^ mostExponent
 
 -- n is at most 8 and D at most 1,000. The figures have only the limits of their types: 16 bits for a coefficient, 32 for a right-hand side
 pub record Limits (s : System) (D : ℕ) : Type 0 where
-  pub rows : s .n ≤ mostTanks
+  pub small : s .n ≤ mostTanks
   pub scale : D ≤ scale-limit
   pub coefficients : Within (2 ^ 15) (s .rows .coefficients)
   pub right-sides : Within (2 ^ 31) (s .rows .right-sides)

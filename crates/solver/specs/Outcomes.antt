@@ -42,8 +42,8 @@ module _ (s : System) (D : ℕ) where
       → Eliminated (s .n) (eliminated (s .n) (s .rows .coefficients) .rows) (eliminated (s .n) (s .rows .coefficients) .order)
   eliminated-whole h e =
       record {
-        factors = factors (s .n) (s .rows .coefficients) (h .rows) (h .coefficients) (complete-steps (s .n) (eliminated (s .n) (s .rows .coefficients) .steps) e);
-        order = permutation (s .n) (s .rows .coefficients) (h .rows);
+        factors = factors (s .n) (s .rows .coefficients) (h .small) (h .coefficients) (complete-steps (s .n) (eliminated (s .n) (s .rows .coefficients) .steps) e);
+        order = permutation (s .n) (s .rows .coefficients) (h .small);
       }
 
   -- as a caller has them: equal to the elimination's rows and order, and to the start

@@ -26,13 +26,13 @@ use Rattle.solver.specs.Limits.{scale-limit, Limits, Ready, Updatable, G
 
 pub limits-enough : (s : System) (D : ℕ) → s .n ≤ mostTanks → D ≤ scale-limit → Within coefficientLimit (s .rows .coefficients) → Within rightSideLimit (s .rows .right-sides) → Limits s D
 limits-enough s D n d a b =
-    record { rows = n; scale = d; coefficients = λ j. omega (arith, a j); right-sides = λ j. omega (arith, b j) }
+    record { small = n; scale = d; coefficients = λ j. omega (arith, a j); right-sides = λ j. omega (arith, b j) }
 
 -- ---- |R| ≤ 1,000 × 2 ^ 31 + 8 × 2 ^ 15 × 10,000,000
 
 module _ (s : System) (D : ℕ) (Y : List ℤ) (h : Limits s D) (k : Within figure-limit Y) where
   enough : D * 2 ^ 31 + s .n * (2 ^ 15 * figure-limit) ≤ right-limit
-  enough = let d = h .scale in let n = h .rows in omega arith
+  enough = let d = h .scale in let n = h .small in omega arith
 
   pub residual-le : (i : ℕ) → natAbs (residual (row s i) (trial (s .n) D Y)) ≤ right-limit
   residual-le i =
@@ -77,7 +77,7 @@ module _ (w : List (List ℤ)) (o : List ℕ) (s : System) (D : ℕ) (p : Progre
   pub updatable : Updatable (s .n) w o (p .standing .residuals) (p .trial)
   updatable =
       record {
-        places = h .limits .rows;
+        places = h .limits .small;
         eliminated = h .eliminated;
         residuals = rw held (residuals-within s D (p .trial) (h .limits) (h .measured .figures));
         figures = h .measured .figures;
@@ -85,10 +85,10 @@ module _ (w : List (List ℤ)) (o : List ℕ) (s : System) (D : ℕ) (p : Progre
 
   -- residuals and reaches may be written again in their places: those past the last row are 0
   pub residuals-cleared : Cleared (s .n) (pos 0) (p .standing .residuals)
-  residuals-cleared = rw held (filled-cleared (pos 0) (s .n) _ (h .limits .rows))
+  residuals-cleared = rw held (filled-cleared (pos 0) (s .n) _ (h .limits .small))
 
   pub reaches-cleared : Cleared (s .n) 0 (p .standing .reaches)
-  reaches-cleared = rw (ap (λ (m : Standing). m .reaches) (h .measured .standing-is)) (filled-cleared 0 (s .n) _ (h .limits .rows))
+  reaches-cleared = rw (ap (λ (m : Standing). m .reaches) (h .measured .standing-is)) (filled-cleared 0 (s .n) _ (h .limits .small))
 
   pub updated-from : (u : Update) → u ≡ gained (s .n) (p .trial) (substituted w (permuted (s .n) o (p .standing .residuals)) (s .n)) → u ≡ updated w o s D (p .trial)
   unfolding updated

@@ -10,7 +10,7 @@ use denote.Ref.{now}
 use Rattle.outcome.specs.declared.Refusal.the-variants.{OutsideLimits}
 use Rattle.fields.specs.Field.{headerSize, valueOf}
 use Rattle.fields.specs.FieldLaws.{field-room}
-use Rattle.casefile.specs.Layout.{headTag, headLength, nAt, exponentAt, roundsAt, rowsAt}
+use Rattle.casefile.specs.Layout.{headTag, headLength, nIn, exponentIn, roundsIn, rowsAt}
 use Rattle.casefile.specs.Decode.{headStatus}
 use Rattle.casefile.specs.AnswerLaws.{answer-stops, answer-goes-on}
 use borrow.Author.Needs.{needs}
@@ -33,19 +33,19 @@ unfolding headStatus
 returns c = answer-stops (c .before .before .check-field .ensures) _ (c .enum-told .given .1)
 
 cast-n : tie.Need-cast-n
-cast-n c = omega (arith, c .before .before .before .before .shared-slice-known .given nAt)
+cast-n c = omega (arith, c .before .before .before .before .shared-slice-known .given (headerSize + nIn))
 
 cast-exponent : tie.Need-cast-exponent
-cast-exponent c = omega (arith, c .before .before .before .before .before .shared-slice-known .given exponentAt)
+cast-exponent c = omega (arith, c .before .before .before .before .before .shared-slice-known .given (headerSize + exponentIn))
 
 cast-rounds : tie.Need-cast-rounds
-cast-rounds c = omega (arith, c .before .before .before .before .before .before .shared-slice-known .given roundsAt)
+cast-rounds c = omega (arith, c .before .before .before .before .before .before .shared-slice-known .given (headerSize + roundsIn))
 
 returns-2 : tie.Need-returns-2
 unfolding headStatus
 returns-2 c =
     let k = c .before .before .before .before .before in
-    rw (value-byte k 0, value-byte k 1, value-byte k 2)
+    rw (value-byte k nIn, value-byte k exponentIn, value-byte k roundsIn)
     (answer-goes-on (k .before .before .check-field .ensures) OutsideLimits (k .enum-told2 .given .1)
     (record { status = c .before .head-fine .ensures; made = λ e. rw (c .check .ensures, e) }) (c .check .ensures))
 

@@ -7,7 +7,7 @@ use lib.ListN.{length-set}
 use lib.Seq.{sets-eq}
 use denote.Ref.{now}
 use Rattle.bigendian.specs.Number.{bytes}
-use Rattle.buffer.specs.WroteLaws.{wrote-two}
+use Rattle.buffer.specs.WroteLaws.{onto-two}
 use Rattle.fields.specs.Field.{lengthSize}
 use borrow.Author.Needs.{needs}
 use Rattle.fields.proofs.write_header.Statement.{statement}
@@ -15,7 +15,7 @@ use Rattle.fields.proofs.write_header.Tie as tie
 
 returns : tie.Need-returns
 returns c = let a = c .before .before .before .before .before .args in
-    wrote-two (a .tag ∷ []) (bytes lengthSize (a .len)) (now (a .out)) (sets-eq (a .tag ∷ []) (now (a .out)) 0 (omega arith)) refl (c .before .before .write-u16 .ensures)
+    onto-two (a .tag ∷ []) (bytes lengthSize (a .len)) (now (a .out)) (sets-eq (a .tag ∷ []) (now (a .out)) 0 (omega arith)) refl (c .before .before .write-u16 .ensures)
 
 pub write-header-spec : {M : Type 1} → statement M
 write-header-spec =

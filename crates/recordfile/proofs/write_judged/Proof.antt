@@ -1,10 +1,11 @@
 -- `recordfile::write_judged` meets its contract: the four fields, one behind the other. Assumes nothing.
-use mathlib.Core.Path.{sym, _∙_}
+use mathlib.Core.Path.{refl, sym, _∙_}
+use native.Mathlib.Omega.{arith}
 use denote.Ref.{now}
 use borrow.Author.Needs.{needs}
-use Rattle.buffer.specs.WroteLaws.{wrote-two}
-use Rattle.recordfile.specs.Layout.{answerField, rowsField, factorField}
-use Rattle.recordfile.specs.Laws.{first-one, first-two, first-three, length-one, length-two, length-three, judged-is}
+use Rattle.buffer.specs.WroteLaws.{wrote-front, wrote-more}
+use Rattle.recordfile.specs.Layout.{verdictField, answerField, rowsField, factorField}
+use Rattle.recordfile.specs.Laws.{length-answers, length-rows, length-one, judged-is}
 use Rattle.recordfile.proofs.write_judged.Statement.{statement}
 use Rattle.recordfile.proofs.write_judged.Tie as tie
 
@@ -15,9 +16,13 @@ returns c =
     let n = a .n in
     let Y = now (a .answer) in
     let j = a .judgement in
-    let two = wrote-two (first-one n (a .rounds) Y j) (answerField n Y) out (c .before .before .before .before .before .before .before .before .before .before .before .before .before .before .before .before .before .before .before .before .write-verdict .ensures) (length-one n (a .rounds) Y j) (c .before .before .before .before .before .before .before .before .before .before .before .before .before .before .before .write-answer .ensures) in
-    let three = wrote-two (first-two n (a .rounds) Y j) (rowsField n (j .residuals) (j .reaches)) out two (length-two n (a .rounds) Y j ∙ sym (c .before .before .before .before .before .before .before .before .before .before .before .before .rows-at .ensures)) (c .before .before .before .before .before .before .before .before .write-rows .ensures) in
-    rw (← (judged-is n (a .rounds) Y j)) (wrote-two (first-three n (a .rounds) Y j) (factorField (j .none) (j .decides)) out three (length-three n (a .rounds) Y j ∙ sym (c .before .before .before .before .before .factor-at .ensures)) (c .before .before .write-factor .ensures))
+    let rows-at = c .before .before .before .before .before .before .before .before .before .before .before .before .rows-at .ensures in
+    let factor-at = c .before .before .before .before .before .factor-at .ensures in
+    let w0 = wrote-front (verdictField (j .met) (j .unmet) (a .rounds)) out (c .before .before .before .before .before .before .before .before .before .before .before .before .before .before .before .before .before .before .before .before .write-verdict .ensures) (length-one n (a .rounds) Y j) in
+    let w1 = wrote-more (answerField n Y) _ w0 (c .before .before .before .before .before .before .before .before .before .before .before .before .before .before .before .write-answer .ensures) (sym (rows-at ∙ omega (arith, length-answers n Y))) in
+    let w2 = wrote-more (rowsField n (j .residuals) (j .reaches)) _ w1 (c .before .before .before .before .before .before .before .before .write-rows .ensures) (sym (factor-at ∙ omega (arith, rows-at, length-rows n (j .residuals) (j .reaches)))) in
+    let w3 = wrote-more (factorField (j .none) (j .decides)) _ w2 (c .before .before .write-factor .ensures) refl in
+    rw (← (judged-is n (a .rounds) Y j)) (w3 .bytes)
 
 pub write-judged-spec : {M : Type 1} → statement M
 write-judged-spec =

@@ -42,15 +42,15 @@ update-trial-requires c κs =
 fill-residuals-requires : tie.Need-fill-residuals-requires
 fill-residuals-requires c κs =
     let b = begun (c .before .before .before) in
-    (b .pre .limits .rows, residuals-cleared (b .args .rows .now) (b .args .order .now) (s′ b) (D′ b) (p′ b) (b .pre))
+    (b .pre .limits .small, residuals-cleared (b .args .rows .now) (b .args .order .now) (s′ b) (D′ b) (p′ b) (b .pre))
 
 fill-reaches-requires : tie.Need-fill-reaches-requires
 fill-reaches-requires c κs =
     let b = begun (c .before .before .before .before .before .before) in
-    (b .pre .limits .rows, reaches-cleared (b .args .rows .now) (b .args .order .now) (s′ b) (D′ b) (p′ b) (b .pre))
+    (b .pre .limits .small, reaches-cleared (b .args .rows .now) (b .args .order .now) (s′ b) (D′ b) (p′ b) (b .pre))
 
 first-beyond-requires : tie.Need-first-beyond-requires
-first-beyond-requires c κs = begun (c .before .before .before .before .before .before .before .before .before .before) .pre .limits .rows
+first-beyond-requires c κs = begun (c .before .before .before .before .before .before .before .before .before .before) .pre .limits .small
 
 add-progress : tie.Need-add-progress
 add-progress c = let k = begun (c .before .before .before .before .before .before .before .before .before .before .before) .pre .countable in omega arith
@@ -61,7 +61,7 @@ returns c =
     let b = begun d in
     let a = b .args in
     let m =
-    measured-by-parts (a .n) (a .coefficients .now) (a .tolerances .now) (a .right-sides .now) (a .right-tolerances .now) (trial (a .n) (a .scale) (next d .trial)) (b .pre .limits .rows) _ _ _
+    measured-by-parts (a .n) (a .coefficients .now) (a .tolerances .now) (a .right-sides .now) (a .right-tolerances .now) (trial (a .n) (a .scale) (next d .trial)) (b .pre .limits .small) _ _ _
     (c .before .before .before .before .before .before .before .before .fill-residuals .ensures)
     (c .before .before .before .before .before .fill-reaches .ensures)
     (c .before .first-beyond .ensures) in
