@@ -1,11 +1,13 @@
 -- The bytes of a case: document 01, "Layout of case and record".
 use Prim.Native.Nat.{ℕ, _+_, _*_}
+use mathlib.Core.Path.{_≡_}
 use mathlib.Core.List.{List, [], _∷_, _++_, map}
 use lib.IntN.{ℤ}
 use Rattle.buffer.specs.Buffer.{concat}
 use Rattle.figures.specs.Figures.{Kind, i16, u16, i32, u32, spread}
 use Rattle.fields.specs.Field.{headerSize, field, endField}
 use Rattle.rows.specs.Block.{Block, split}
+use Rattle.casefile.specs.declared.RowPlaces.{RowPlaces}
 use Rattle.casefile.specs.Case.{Case, whereBrought}
 
 -- ---- fields and their lengths
@@ -56,6 +58,14 @@ rightSideAt n = tolerancesAt n + u16 .width * n
 
 abbrev pub rightToleranceAt : ℕ → ℕ
 rightToleranceAt n = rightSideAt n + i32 .width * 1
+
+-- the places and lengths of a row of n tanks, as the program holds them
+pub record RowPlaced (n : ℕ) (r : RowPlaces) : Type 0 where
+  pub tolerances : r .tolerances ≡ tolerancesAt n
+  pub right-side : r .«right_side» ≡ rightSideAt n
+  pub right-tolerance : r .«right_tolerance» ≡ rightToleranceAt n
+  pub len : r .len ≡ rowLength n
+  pub size : r .size ≡ rowSize n
 
 abbrev pub rowsEnd : ℕ → ℕ
 rowsEnd n = rowsAt + n * rowSize n

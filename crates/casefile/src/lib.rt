@@ -3,7 +3,7 @@ ghost use mathlib.Core.Path.{_≡_};
 ghost use Prim.Native.Nat.{_≤_};
 ghost use Rattle.limits.specs.Limits.{mostTanks};
 ghost use Rattle.casefile.specs.Case.{headFine, trialCount};
-ghost use Rattle.casefile.specs.Layout.{rowLength, rowSize, tolerancesAt, rightSideAt, rightToleranceAt, rowsEnd, trialLength, trialSize};
+ghost use Rattle.casefile.specs.Layout.{RowPlaced, rowsEnd, trialLength, trialSize};
 use bigendian::SIZE_16;
 use bigendian::SIZE_32;
 use limits::MOST_COEFFICIENTS;
@@ -49,6 +49,15 @@ pub struct Reading {
     pub case: Case,
 }
 
+// The places and lengths of a row of n tanks.
+pub struct RowPlaces {
+    pub tolerances: usize,
+    pub right_side: usize,
+    pub right_tolerance: usize,
+    pub len: usize,
+    pub size: usize,
+}
+
 // Whether n, the exponent and the rounds are within their limits.
 pub fn head_fine(n: usize, exponent: usize, rounds: usize) -> bool
     ensures { λ r. ⌜ r ≡ headFine n exponent rounds ⌝ }
@@ -64,44 +73,23 @@ pub fn trial_count(rounds: usize, n: usize) -> usize
     if rounds == 0 { n } else { 0 }
 }
 
-// The length of a row's value: four bytes a tank, and eight.
-pub fn row_length(n: usize) -> usize
+// Where a row's tolerances, right side and its tolerance stand in the row's value, each behind the figures before it; how long the value is; and the bytes of
+// the row's field, header and value.
+pub fn row_places(n: usize) -> RowPlaces
     requires { ⌜ n ≤ mostTanks ⌝ }
-    ensures { λ r. ⌜ r ≡ rowLength n ⌝ }
+    ensures { λ r. ⌜ RowPlaced n r ⌝ }
 {
-    4 * n + 8
-}
-
-// The bytes of a row's field, header and value.
-pub fn row_size(n: usize) -> usize
-    requires { ⌜ n ≤ mostTanks ⌝ }
-    ensures { λ r. ⌜ r ≡ rowSize n ⌝ }
-{
-    fields::HEADER_SIZE + row_length(n)
-}
-
-// Where the tolerances stand in a row's value: behind n coefficients of two bytes.
-pub fn tolerances_at(n: usize) -> usize
-    requires { ⌜ n ≤ mostTanks ⌝ }
-    ensures { λ r. ⌜ r ≡ tolerancesAt n ⌝ }
-{
-    SIZE_16 * n
-}
-
-// Where the right side stands: behind n tolerances of two bytes.
-pub fn right_side_at(n: usize) -> usize
-    requires { ⌜ n ≤ mostTanks ⌝ }
-    ensures { λ r. ⌜ r ≡ rightSideAt n ⌝ }
-{
-    tolerances_at(n) + n * SIZE_16
-}
-
-// Where the right side's tolerance stands: behind its four bytes.
-pub fn right_tolerance_at(n: usize) -> usize
-    requires { ⌜ n ≤ mostTanks ⌝ }
-    ensures { λ r. ⌜ r ≡ rightToleranceAt n ⌝ }
-{
-    right_side_at(n) + SIZE_32
+    let tolerances = SIZE_16 * n;
+    let right_side = tolerances + n * SIZE_16;
+    let right_tolerance = right_side + SIZE_32;
+    let len = right_tolerance + SIZE_32;
+    RowPlaces {
+        tolerances,
+        right_side,
+        right_tolerance,
+        len,
+        size: fields::HEADER_SIZE + len,
+    }
 }
 
 // Where the rows end, and what follows them begins.
@@ -109,7 +97,8 @@ pub fn rows_end(n: usize) -> usize
     requires { ⌜ n ≤ mostTanks ⌝ }
     ensures { λ r. ⌜ r ≡ rowsEnd n ⌝ }
 {
-    ROWS_AT + n * row_size(n)
+    let row = row_places(n);
+    ROWS_AT + n * row.size
 }
 
 // The length of the trial's value: n figures of four bytes.

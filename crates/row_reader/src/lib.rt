@@ -21,10 +21,10 @@ fn read_figures(
     requires { ⌜ RowLists (length (now a)) (block (now a) (now t) (now b) (now f)) ⌝ }
     ensures { λ r. ⌜ FiguresRead (length (now (a .entry))) (drop at (now (s .entry))) r (block (now (a .exit)) (now (t .exit)) (now (b .exit)) (now (f .exit))) ⌝ }
 {
-    let n = a.len();
-    let tolerances = at + casefile::tolerances_at(n);
-    let right_side = at + casefile::right_side_at(n);
-    let right_tolerance = at + casefile::right_tolerance_at(n);
+    let row = casefile::row_places(a.len());
+    let tolerances = at + row.tolerances;
+    let right_side = at + row.right_side;
+    let right_tolerance = at + row.right_tolerance;
     figures::read_i16s(s, at, limits::COEFFICIENT_LIMIT, a)
         && (figures::read_u16s(s, tolerances, limits::TOLERANCE_LIMIT, t)
             && (figures::read_i32s(s, right_side, limits::RIGHT_SIDE_LIMIT, b)
@@ -44,7 +44,8 @@ fn read_row(
     requires { ⌜ RowLists n (block (now a) (now t) (now b) (now f)) ⌝ }
     ensures { λ r. ⌜ RowRead n (drop at (now (s .entry))) r (block (now (a .exit)) (now (t .exit)) (now (b .exit)) (now (f .exit))) ⌝ }
 {
-    let field = fields::check_field(s, at, casefile::ROW_TAG, casefile::row_length(n));
+    let row = casefile::row_places(n);
+    let field = fields::check_field(s, at, casefile::ROW_TAG, row.len);
     if let Status::Refused(_) = field {
         return field;
     }
@@ -68,7 +69,8 @@ pub fn read_rows(
     requires { ⌜ RowsRoom n (block (now a) (now t) (now b) (now f)) ⌝ }
     ensures { λ r. ⌜ RowsRead n (drop at (now (s .entry))) (block (now (a .entry)) (now (t .entry)) (now (b .entry)) (now (f .entry))) r (block (now (a .exit)) (now (t .exit)) (now (b .exit)) (now (f .exit))) ⌝ }
 {
-    let size = casefile::row_size(n);
+    let places = casefile::row_places(n);
+    let size = places.size;
     let mut i = 0;
     let mut from = 0;
     let mut p = at;

@@ -13,11 +13,11 @@ fn write_row(out: &mut [u8], a: &[i16], t: &[u16], b: &[i32], f: &[u32])
     requires { ⌜ RowLists (length (now a)) (block (now a) (now t) (now b) (now f)) ⌝ }
     ensures { λ _. ⌜ now (out .exit) ≡ onto (rowField (block (now (a .entry)) (now (t .entry)) (now (b .entry)) (now (f .entry)))) (now (out .entry)) ⌝ }
 {
-    let n = a.len();
-    let tolerances = HEADER_SIZE + casefile::tolerances_at(n);
-    let right_side = HEADER_SIZE + casefile::right_side_at(n);
-    let right_tolerance = HEADER_SIZE + casefile::right_tolerance_at(n);
-    fields::write_header(out, casefile::ROW_TAG, casefile::row_length(n) as u16);
+    let row = casefile::row_places(a.len());
+    let tolerances = HEADER_SIZE + row.tolerances;
+    let right_side = HEADER_SIZE + row.right_side;
+    let right_tolerance = HEADER_SIZE + row.right_tolerance;
+    fields::write_header(out, casefile::ROW_TAG, row.len as u16);
     figures::write_i16s(&mut out[HEADER_SIZE..], a);
     figures::write_u16s(&mut out[tolerances..], t);
     figures::write_i32s(&mut out[right_side..], b);
@@ -30,7 +30,8 @@ pub fn write_rows(out: &mut [u8], n: usize, a: &[i16], t: &[u16], b: &[i32], f: 
     requires { ⌜ RowsRoom n (block (now a) (now t) (now b) (now f)) ⌝ }
     ensures { λ _. ⌜ now (out .exit) ≡ onto (joined rowField (split n n (block (now (a .entry)) (now (t .entry)) (now (b .entry)) (now (f .entry))))) (now (out .entry)) ⌝ }
 {
-    let size = casefile::row_size(n);
+    let places = casefile::row_places(n);
+    let size = places.size;
     let mut i = 0;
     let mut from = 0;
     let mut p = 0;

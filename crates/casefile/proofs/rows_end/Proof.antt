@@ -7,13 +7,13 @@ use Rattle.casefile.proofs.rows_end.Statement.{statement}
 use Rattle.casefile.proofs.rows_end.Tie as tie
 
 mul-result : tie.Need-mul-result
-mul-result c = rw (c .row-size .ensures) (omega (arith, rows-fit _ (c .before .pre)))
+mul-result c = rw (c .before .row-places .ensures .size) (omega (arith, rows-fit _ (c .before .before .pre)))
 
 add-result : tie.Need-add-result
-add-result c = rw (c .row-size .ensures) (omega (arith, rows-fit _ (c .before .pre)))
+add-result c = rw (c .before .row-places .ensures .size) (omega (arith, rows-fit _ (c .before .before .pre)))
 
 returns : tie.Need-returns
-returns c = rw (c .row-size .ensures)
+returns c = rw (c .before .row-places .ensures .size)
 
 pub rows-end-spec : {M : Type 1} → statement M
 rows-end-spec = tie.close (tie.spec (λ c κs. search needs) mul-result add-result returns)

@@ -3,6 +3,7 @@
 use Prim.Native.Nat.{ℕ, _+_}
 use mathlib.Core.Bool.{Bool, true, _&&_}
 use mathlib.Core.List.{List}
+use native.Mathlib.Omega.{arith}
 use mathlib.Core.Path.{_≡_, refl, sym, _∙_}
 use lib.ListN.{length, drop}
 use lib.Seq.{drop-drop}
@@ -46,11 +47,11 @@ run k f s v at p q m n e d g h = rw (e, ← (drop-drop q at s), d, g) at h
 -- ---- the four runs, each where it has been read
 
 module _ (c : tie.After-read-i16s) where
-  abbrev places : tie.After-right-tolerance-at
-  places = c .before .before
+  abbrev places : tie.After-row-places
+  places = c .before .before .before .before .before
 
   abbrev start : tie.Start
-  start = places .before .before .before .before .before .before
+  start = places .before .before .before .before
 
   abbrev at : ℕ
   at = start .args .at
@@ -78,7 +79,7 @@ module _ (c : tie.After-read-u16s) where
   tolerances : RunAnswered (upTo toleranceLimit) (row first .tolerances) (c .read-u16s .result) (c .read-u16s .last .1 .1 .1 .0)
   unfolding rowOf
   tolerances =
-      run u16 _ (s first) _ (at first) _ (tolerancesAt (n first)) _ _ (places first .before .before .tolerances-at .ensures) refl (start first .pre .1 .counts .lt) (c .read-u16s .ensures)
+      run u16 _ (s first) _ (at first) _ (tolerancesAt (n first)) _ _ (places first .row-places .ensures .tolerances) refl (start first .pre .1 .counts .lt) (c .read-u16s .ensures)
 
 module _ (c : tie.After-read-i32s) where
   abbrev second : tie.After-read-u16s
@@ -91,7 +92,7 @@ module _ (c : tie.After-read-i32s) where
   unfolding rowOf
   right-side =
       let w = first second in
-      run i32 _ (s w) _ (at w) _ (rightSideAt (n w)) _ _ (places w .before .right-side-at .ensures) (at-right-side (n w) _) (start w .pre .1 .counts .lb) (c .read-i32s .ensures)
+      run i32 _ (s w) _ (at w) _ (rightSideAt (n w)) _ _ (places w .row-places .ensures .right-side) (at-right-side (n w) _) (start w .pre .1 .counts .lb) (c .read-i32s .ensures)
 
 module _ (c : tie.After-read-u32s) where
   abbrev third : tie.After-read-i32s
@@ -104,7 +105,7 @@ module _ (c : tie.After-read-u32s) where
   unfolding rowOf
   right-tolerance =
       let w = first (second third) in
-      run u32 _ (s w) _ (at w) _ (rightToleranceAt (n w)) _ _ (places w .right-tolerance-at .ensures) (at-right-tolerance (n w) _) (start w .pre .1 .counts .lf) (c .read-u32s .ensures)
+      run u32 _ (s w) _ (at w) _ (rightToleranceAt (n w)) _ _ (places w .row-places .ensures .right-tolerance) (at-right-tolerance (n w) _) (start w .pre .1 .counts .lf) (c .read-u32s .ensures)
 
 -- ---- the answers
 
@@ -154,14 +155,12 @@ read-figures-spec =
     (tie.spec
     (λ c κs. search needs)
     (λ c. search needs)
-    (λ c κs. search needs)
+    (λ c. search needs)
     (λ c. search needs)
     (λ c κs. search needs)
-    (λ c. search needs)
     (λ c κs. search needs)
     (λ c κs. search needs)
-    (λ c κs. search needs)
-    (λ c κs. search needs)
+    (λ c κs. let w = first (second (c .before .before .before)) in omega (arith, places w .row-places .ensures, start w .pre))
     (λ c. search needs)
     (λ c. search needs)
     (λ c. search needs)

@@ -17,7 +17,7 @@ module _ (k : tie.After-check-field) where
   start = k .before .before .before .before .before
 
   field : Checked (rowDue (start .args .n)) (now (start .args .s)) (start .args .at) (k .check-field .result)
-  field = checked (rowDue (start .args .n)) (now (start .args .s)) (start .args .at) _ (k .before .row-length .ensures) (k .check-field .ensures)
+  field = checked (rowDue (start .args .n)) (now (start .args .s)) (start .args .at) _ (k .before .row-places .ensures .len) (k .check-field .ensures)
 
 returns : tie.Need-returns
 unfolding rowStatus

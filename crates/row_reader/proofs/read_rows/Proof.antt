@@ -44,11 +44,11 @@ returns c = let w = c .before .before .before .before .before .before .before .b
 add-p : tie.Need-add-p Inv-loop μ-loop
 add-p c = let w = c .before .before .before .before .before .before .before .before in
     let h = past _ _ _ _ (so-far w .loop .inv) _ (w .read-row .ensures .status) (c .enum-told2 .given .1) in
-    omega (arith, h, start (begin w) .good, so-far w .before .row-size .ensures)
+    omega (arith, h, start (begin w) .good, so-far w .before .row-places .ensures .size)
 
 loop-again : tie.Need-loop-again Inv-loop μ-loop
 loop-again c = let w = c .before .before .before .before .before .before .before .before in
-    turn-rows _ _ _ _ (so-far w .loop .inv) (begin w .loop-test .taken) (so-far w .before .row-size .ensures) (w .read-row .ensures) (c .enum-told2 .given .1)
+    turn-rows _ _ _ _ (so-far w .loop .inv) (begin w .loop-test .taken) (so-far w .before .row-places .ensures .size) (w .read-row .ensures) (c .enum-told2 .given .1)
 
 pub read-rows-spec : {M : Type 1} → statement M
 read-rows-spec =

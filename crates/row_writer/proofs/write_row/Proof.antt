@@ -1,12 +1,39 @@
 -- `row_writer::write_row` meets its contract: the header and four runs of figures, one behind the other.
 -- Assumes nothing.
+use Prim.Native.Nat.{_≤_}
 use native.Mathlib.Omega.{arith}
+use mathlib.Core.Path.{_≡_}
+use lib.ListN.{length}
 use denote.Ref.{now}
-use Rattle.rows.specs.Block.{block}
+use Rattle.rows.specs.Block.{block, RowLists}
+use Rattle.casefile.specs.Layout.{rowSize, RowPlaced}
 use Rattle.row_writer.proofs.Writing.{row-written}
 use borrow.Author.Needs.{needs}
 use Rattle.row_writer.proofs.write_row.Statement.{statement}
 use Rattle.row_writer.proofs.write_row.Tie as tie
+
+-- where the header has been written: the places, and what was given
+module _ (h : tie.After-write-header) where
+  abbrev placed : tie.After-row-places
+  placed = h .before .before .before .before .before .before
+
+  abbrev given : tie.Start
+  given = placed .before .before .before .before
+
+  known : let g = given .args in
+      RowPlaced (length (now (g .a))) (placed .row-places .result)
+      × (rowSize (length (now (g .a))) ≤ length (now (g .out)))
+      × RowLists (length (now (g .a))) (block (now (g .a)) (now (g .t)) (now (g .b)) (now (g .f)))
+      × (length (h .write-header .last .0) ≡ length (now (g .out)))
+  known = (placed .row-places .ensures, given .pre .0, given .pre .1, omega (arith, h .write-header .kept))
+
+-- from where the right side has been written
+module _ (w : tie.After-write-i32s) where
+  abbrev second : tie.After-write-u16s
+  second = w .before .before .before .before
+
+  abbrev begun : tie.After-write-header
+  begun = second .before .before .before .before .before .before .before .before
 
 -- where all has been written: the writes, from the last to the first
 module _ (c : tie.After-slice-known6) where
@@ -25,11 +52,8 @@ module _ (c : tie.After-slice-known6) where
   abbrev header : tie.After-write-header
   header = coefficients .before .before .before .before
 
-  abbrev places : tie.After-right-tolerance-at
-  places = header .before .before .before
-
   abbrev start : tie.Start
-  start = places .before .before .before .before .before .before
+  start = given header
 
 same-length : tie.Need-same-length
 same-length c =
@@ -45,11 +69,8 @@ same-length c =
 
 returns : tie.Need-returns
 returns c = let g = start c .args in
-    row-written (now (g .out)) (block (now (g .a)) (now (g .t)) (now (g .b)) (now (g .f))) (start c .pre .1) _ _ _ _ _ _ _ _ _
-    (header c .before .row-length .ensures)
-    (places c .before .before .tolerances-at .ensures)
-    (places c .before .right-side-at .ensures)
-    (places c .right-tolerance-at .ensures)
+    row-written (now (g .out)) (block (now (g .a)) (now (g .t)) (now (g .b)) (now (g .f))) (start c .pre .1) _ _ _ _ _ _
+    (placed (header c) .row-places .ensures)
     (header c .write-header .ensures)
     (coefficients c .write-i16s .ensures)
     (tolerances c .write-u16s .ensures)
@@ -62,13 +83,6 @@ write-row-spec =
     (tie.spec
     (λ c κs. search needs)
     (λ c. search needs)
-    (λ c κs. search needs)
-    (λ c. search needs)
-    (λ c κs. search needs)
-    (λ c. search needs)
-    (λ c κs. search needs)
-    (λ c. search needs)
-    (λ c κs. search needs)
     (λ c. search needs)
     (λ c. search needs)
     (λ c. search needs)
@@ -80,10 +94,14 @@ write-row-spec =
     (λ c. search needs)
     (λ c. search needs)
     (λ c. search needs)
-    (λ c κs. search needs)
+    (λ c κs. omega (arith, known (c .before .before .before .before .before .before .before)))
     (λ c. search needs)
     (λ c. search needs)
     (λ c. search needs)
-    (λ c κs. search needs)
+    (λ c κs. omega (arith, known (c .before .before .before .before .before .before .before .before .before .before .before)))
+    (λ c. let w = c .before .before in omega (arith, known (begun w), second w .before .before .before .before .write-i16s .kept, second w .write-u16s .kept))
+    (λ c. let w = c .before .before in omega (arith, known (begun w), second w .before .before .before .before .write-i16s .kept, second w .write-u16s .kept))
+    (λ c. let w = c .before .before in omega (arith, known (begun w), second w .before .before .before .before .write-i16s .kept, second w .write-u16s .kept))
+    (λ c κs. let w = c .before .before .before in omega (arith, known (begun w), second w .before .before .before .before .write-i16s .kept, second w .write-u16s .kept))
     same-length
     returns)

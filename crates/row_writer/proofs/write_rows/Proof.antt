@@ -29,11 +29,11 @@ module _ (c : tie.In-loop Inv-loop μ-loop) where
 
 add-p : tie.Need-add-p Inv-loop μ-loop
 add-p c = let w = c .before .before .before .before .before .before .before .before in
-    omega (arith, next-row w, start w .good, w .before .loop .inv .running .same, w .before .before .row-size .ensures)
+    omega (arith, next-row w, start w .good, w .before .loop .inv .running .same, w .before .before .row-places .ensures .size)
 
 loop-again : tie.Need-loop-again Inv-loop μ-loop
 loop-again c = let w = c .before .before .before .before .before .before .before .before in
-    turn _ _ _ (w .before .loop .inv) (w .loop-test .taken) (w .before .before .row-size .ensures) (c .before .before .write-row .ensures)
+    turn _ _ _ (w .before .loop .inv) (w .loop-test .taken) (w .before .before .row-places .ensures .size) (c .before .before .write-row .ensures)
 
 pub write-rows-spec : {M : Type 1} → statement M
 write-rows-spec =

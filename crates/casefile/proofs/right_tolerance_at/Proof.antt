@@ -1,9 +1,0 @@
--- `casefile::right_tolerance_at` meets its contract: the place is the definition's.
--- Assumes nothing.
-use native.Mathlib.Omega.{arith}
-use borrow.Author.Needs.{needs}
-use Rattle.casefile.proofs.right_tolerance_at.Statement.{statement}
-use Rattle.casefile.proofs.right_tolerance_at.Tie as tie
-
-pub right-tolerance-at-spec : {M : Type 1} → statement M
-right-tolerance-at-spec = tie.close (tie.spec (λ c κs. search needs) (λ c. search needs) (λ c. omega (arith, c .right-side-at .ensures)))
