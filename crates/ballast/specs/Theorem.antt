@@ -26,7 +26,7 @@ use Rattle.judge.specs.Finding.{Justified, Agrees}
 use Rattle.judge.specs.Laws.{unmet-le, deciding-below}
 use Rattle.judge.specs.Agreement.{judgement-agrees, agrees-with}
 use Rattle.judge.specs.Theorem.{justified}
-use Rattle.recordfile.specs.Layout.{recordOf, longestRecord, Holds}
+use Rattle.recordfile.specs.Layout.{recordOf, longestRecord, RecordFits}
 use Rattle.recordfile.specs.Laws.{length-record, longest-record}
 use Rattle.recordfile.specs.ReadOff.{recordedAnswer, recordedFinding}
 use Rattle.recordfile.specs.ReadOffLaws.{recorded-met, recorded-unmet, recorded-rounds, recorded-answer, recorded-residual, recorded-reach, recorded-none, recorded-decides}
@@ -164,7 +164,7 @@ module _ (c : Case) (g : Good c) where
   rounds-le (suc k) h e = omega (arith, rounds (systemOf (stored c)) (scaleOf (c .exponent)) (suc k) (omega arith) e .few)
 
   pub recordable : (room : ℕ) → longestRecord ≤ room → worked (stored c) .status ≡ Answered
-      → Holds (c .n) (worked (stored c) .rounds) (worked (stored c) .judgement) room
+      → RecordFits (c .n) (worked (stored c) .rounds) (worked (stored c) .judgement) room
   unfolding worked stored
   recordable room h e =
       let r = rounds-le (c .rounds) (g .limits .rounds-small) e in
@@ -190,7 +190,7 @@ module _ (c : Case) (g : Good c) where
 
 -- an answer that was accepted fits a record
 pub answer-recordable : (input : List ℕ) (x : FileAnswer) (room : ℕ) → x ≡ answer-of (decode input) → x .status ≡ Accepted → longestRecord ≤ room
-    → Holds (x .n) (x .rounds) (x .judgement) room
+    → RecordFits (x .n) (x .rounds) (x .judgement) room
 unfolding answer-of stored
 answer-recordable input x room q t h =
     let k = answering (decode input) (ap (λ y. y .status) (sym q) ∙ t) in

@@ -1,4 +1,5 @@
 -- The bytes of a record: document 01, "A record is". Definitions only. Assumes nothing.
+use mathlib.Core.Path.{_≡_}
 use mathlib.Core.Bool.{Bool, true, false}
 use mathlib.Core.List.{List, [], _∷_, _++_}
 use Prim.Native.Nat.{ℕ, _+_, _*_, _≤_, _<_}
@@ -9,6 +10,7 @@ use Rattle.buffer.specs.Buffer.{run, concat}
 use Rattle.figures.specs.Figures.{i32, i64, u64, figureBytes}
 use Rattle.fields.specs.Field.{headerSize, field, endField}
 use Rattle.judge.specs.declared.Judgement.{Judgement}
+use Rattle.recordfile.specs.declared.RecordPlaces.{RecordPlaces}
 
 -- the tags 10, 11, 12 and 13, hexadecimal
 abbrev pub verdictTag : ℕ
@@ -66,6 +68,14 @@ factorAt n = rowsAt n + headerSize + rowsLength n
 abbrev pub endAt : ℕ → ℕ
 endAt n = factorAt n + headerSize + factorLength
 
+-- the lengths and places of a record of n figures and rows, as the program holds them
+pub record RecordPlaced (n : ℕ) (r : RecordPlaces) : Type 0 where
+  pub answer-len : r .«answer_len» ≡ answerLength n
+  pub rows : r .rows ≡ rowsAt n
+  pub rows-len : r .«rows_len» ≡ rowsLength n
+  pub factor : r .factor ≡ factorAt n
+  pub end : r .end ≡ endAt n
+
 -- where the parts of field 13 stand
 abbrev pub noneAt : ℕ → ℕ
 noneAt n = factorAt n + headerSize
@@ -102,14 +112,16 @@ rowsField n R T = field rowsTag (run n (pairAt R T))
 abbrev pub factorField : Bool → ℕ → List ℕ
 factorField none decides = field factorTag (flag none ∷ decides ∷ [])
 
--- the fields 10 to 13 of an answer of n figures, the rounds used and its judgement
-abbrev pub judgedFields : ℕ → ℕ → List ℤ → Judgement → List (List ℕ)
-judgedFields n rounds Y j =
-    verdictField (j .met) (j .unmet) rounds ∷ answerField n Y ∷ rowsField n (j .residuals) (j .reaches) ∷ factorField (j .none) (j .decides) ∷ []
-
--- and the end field
+-- "A record is": the fields of an answer of n figures, the rounds used and its judgement, in this order
 unfoldable pub recordOf : ℕ → ℕ → List ℤ → Judgement → List ℕ
-recordOf n rounds Y j = concat (judgedFields n rounds Y j ++ (endField ∷ []))
+recordOf n rounds Y j =
+    concat
+    (verdictField (j .met) (j .unmet) rounds
+    ∷ answerField n Y
+    ∷ rowsField n (j .residuals) (j .reaches)
+    ∷ factorField (j .none) (j .decides)
+    ∷ endField
+    ∷ [])
 
 -- "It has 20 + 20n bytes, at most 180"
 abbrev pub recordLength : ℕ → ℕ
@@ -119,7 +131,7 @@ abbrev pub longestRecord : ℕ
 longestRecord = 180
 
 -- what the writer of a record asks: at most 8 rows, rows and rounds of a byte each, and room
-pub record Holds (n rounds : ℕ) (j : Judgement) (room : ℕ) : Type 0 where
+pub record RecordFits (n rounds : ℕ) (j : Judgement) (room : ℕ) : Type 0 where
   pub rows : n ≤ mostTanks
   pub rounds-byte : rounds < 256
   pub unmet-byte : j .unmet < 256

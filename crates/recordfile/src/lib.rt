@@ -3,9 +3,9 @@ ghost use mathlib.Core.Path.{_≡_};
 ghost use Prim.Native.Nat.{_+_, _≤_};
 ghost use lib.ListN.{length};
 ghost use Rattle.limits.specs.Limits.{mostTanks};
-ghost use Rattle.buffer.specs.Buffer.{onto, Wrote, run, concat};
+ghost use Rattle.buffer.specs.Buffer.{onto, Wrote, run};
 ghost use Rattle.fields.specs.Field.{headerSize};
-ghost use Rattle.recordfile.specs.Layout.{answerLength, rowsLength, factorLength, answerAt, rowsAt, factorAt, endAt, flag as flagOf, pair, pairAt, pairSize, verdictField, answerField, rowsField, factorField, judgedFields, recordOf, Holds};
+ghost use Rattle.recordfile.specs.Layout.{answerLength, rowsLength, factorLength, answerAt, RecordPlaced, flag as flagOf, pair, pairAt, pairSize, verdictField, answerField, rowsField, factorField, recordOf, RecordFits};
 use fields::HEADER_SIZE;
 use judge::Judgement;
 use limits::MOST_TANKS;
@@ -42,42 +42,34 @@ const VERDICT_LENGTH: u16 = 3;
 
 const FACTOR_LENGTH: u16 = 2;
 
-fn answer_length(n: usize) -> usize
-    requires { ⌜ n ≤ mostTanks ⌝ }
-    ensures { λ r. ⌜ r ≡ answerLength n ⌝ }
-{
-    bigendian::SIZE_32 * n
-}
-
-fn rows_length(n: usize) -> usize
-    requires { ⌜ n ≤ mostTanks ⌝ }
-    ensures { λ r. ⌜ r ≡ rowsLength n ⌝ }
-{
-    PAIR_SIZE * n
-}
-
-// Where the fields behind the verdict begin in a record of n figures and rows.
+// Where the answer's field begins, behind the verdict's.
 const ANSWER_AT: usize = HEADER_SIZE + VERDICT_LENGTH as usize;
 
-fn rows_at(n: usize) -> usize
-    requires { ⌜ n ≤ mostTanks ⌝ }
-    ensures { λ r. ⌜ r ≡ rowsAt n ⌝ }
-{
-    ANSWER_AT + HEADER_SIZE + answer_length(n)
+// The lengths and places of a record of n figures and rows.
+struct RecordPlaces {
+    answer_len: usize,
+    rows: usize,
+    rows_len: usize,
+    factor: usize,
+    end: usize,
 }
 
-fn factor_at(n: usize) -> usize
+// How long the values of the answer and the rows are, and where the fields of the rows, the factor and the end begin, each behind the one before it.
+fn record_places(n: usize) -> RecordPlaces
     requires { ⌜ n ≤ mostTanks ⌝ }
-    ensures { λ r. ⌜ r ≡ factorAt n ⌝ }
+    ensures { λ r. ⌜ RecordPlaced n r ⌝ }
 {
-    rows_at(n) + HEADER_SIZE + rows_length(n)
-}
-
-fn end_at(n: usize) -> usize
-    requires { ⌜ n ≤ mostTanks ⌝ }
-    ensures { λ r. ⌜ r ≡ endAt n ⌝ }
-{
-    factor_at(n) + HEADER_SIZE + FACTOR_LENGTH as usize
+    let answer_len = bigendian::SIZE_32 * n;
+    let rows = ANSWER_AT + HEADER_SIZE + answer_len;
+    let rows_len = PAIR_SIZE * n;
+    let factor = rows + HEADER_SIZE + rows_len;
+    RecordPlaces {
+        answer_len,
+        rows,
+        rows_len,
+        factor,
+        end: factor + HEADER_SIZE + FACTOR_LENGTH as usize,
+    }
 }
 
 fn flag(b: bool) -> u8
@@ -142,7 +134,8 @@ fn write_answer(out: &mut [u8], n: usize, answer: &[i32])
     requires { ⌜ (n ≤ mostTanks) × ((n ≤ length (now answer)) × (headerSize + answerLength n ≤ length (now out))) ⌝ }
     ensures { λ _. ⌜ now (out .exit) ≡ onto (answerField n (now (answer .entry))) (now (out .entry)) ⌝ }
 {
-    fields::write_header(out, ANSWER_TAG, answer_length(n) as u16);
+    let places = record_places(n);
+    fields::write_header(out, ANSWER_TAG, places.answer_len as u16);
     figures::write_i32s(&mut out[HEADER_SIZE..], &answer[..n]);
 }
 
@@ -156,32 +149,12 @@ fn write_rows<'a>(
     requires { ⌜ (n ≤ mostTanks) × (headerSize + rowsLength n ≤ length (now out)) ⌝ }
     ensures { λ _. ⌜ now (out .exit) ≡ onto (rowsField n (now (residuals .entry)) (now (reaches .entry))) (now (out .entry)) ⌝ }
 {
-    fields::write_header(out, ROWS_TAG, rows_length(n) as u16);
+    let places = record_places(n);
+    fields::write_header(out, ROWS_TAG, places.rows_len as u16);
     write_pairs(&mut out[HEADER_SIZE..], n, residuals, reaches);
 }
 
-// Fields 10 to 13 of an answer over the front of out: its first n figures, the rounds used, and its judgement.
-fn write_judged(
-    out: &mut [u8],
-    n: usize,
-    rounds: usize,
-    answer: &[i32; MOST_TANKS],
-    judgement: Judgement,
-)
-    requires { ⌜ Holds n rounds judgement (length (now out)) ⌝ }
-    ensures { λ _. ⌜ now (out .exit) ≡ onto (concat (judgedFields n rounds (now (answer .entry)) judgement)) (now (out .entry)) ⌝ }
-{
-    let residuals = judgement.residuals;
-    let reaches = judgement.reaches;
-    write_verdict(out, judgement.met, judgement.unmet as u8, rounds as u8);
-    write_answer(&mut out[ANSWER_AT..], n, answer);
-    let rows = rows_at(n);
-    write_rows(&mut out[rows..], n, &residuals, &reaches);
-    let factor = factor_at(n);
-    write_factor(&mut out[factor..], judgement.none, judgement.decides as u8);
-}
-
-// The whole record over the front of out. Bytes beyond it stay as they were.
+// The whole record of an answer over the front of out: its first n figures, the rounds used, and its judgement. Bytes beyond it stay as they were.
 pub fn write_record(
     out: &mut [u8],
     n: usize,
@@ -189,11 +162,19 @@ pub fn write_record(
     answer: &[i32; MOST_TANKS],
     judgement: Judgement,
 ) -> usize
-    requires { ⌜ Holds n rounds judgement (length (now out)) ⌝ }
+    requires { ⌜ RecordFits n rounds judgement (length (now out)) ⌝ }
     ensures { λ r. ⌜ Wrote (recordOf n rounds (now (answer .entry)) judgement) 0 (now (out .entry)) r (now (out .exit)) ⌝ }
 {
-    write_judged(out, n, rounds, answer, judgement);
-    let end = end_at(n);
+    let places = record_places(n);
+    let rows = places.rows;
+    let factor = places.factor;
+    let end = places.end;
+    let residuals = judgement.residuals;
+    let reaches = judgement.reaches;
+    write_verdict(out, judgement.met, judgement.unmet as u8, rounds as u8);
+    write_answer(&mut out[ANSWER_AT..], n, answer);
+    write_rows(&mut out[rows..], n, &residuals, &reaches);
+    write_factor(&mut out[factor..], judgement.none, judgement.decides as u8);
     fields::write_end(&mut out[end..]);
     end + fields::END_SIZE
 }

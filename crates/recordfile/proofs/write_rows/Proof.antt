@@ -2,18 +2,18 @@
 use mathlib.Core.Path.{sym, _∙_}
 use denote.Ref.{now}
 use borrow.Author.Needs.{needs}
-use Rattle.buffer.specs.RunLaws.{length-run}
 use Rattle.fields.specs.FieldLaws.{field-written}
-use Rattle.recordfile.specs.Layout.{rowsTag, pairSize}
-use Rattle.recordfile.specs.Laws.{length-pair}
+use Rattle.recordfile.specs.Layout.{rowsTag}
+use Rattle.recordfile.specs.Laws.{length-pairs}
 use Rattle.recordfile.proofs.write_rows.Statement.{statement}
 use Rattle.recordfile.proofs.write_rows.Tie as tie
 
 returns : tie.Need-returns
 returns c =
-    let a = c .before .before .before .before .before .before .before .before .before .before .args in
-    let l = length-run pairSize _ (length-pair (a .residuals .now) (a .reaches .now)) (a .n) in
-    field-written rowsTag _ _ (now (a .out)) _ (l ∙ sym (c .before .before .before .before .before .before .before .rows-length .ensures)) (c .before .before .before .before .before .before .write-header .ensures) (c .before .before .write-pairs .ensures)
+    let w = c .before .before .before .before .before .before in
+    let p = w .before .before .before in
+    let a = p .before .before .args in
+    field-written rowsTag _ _ (now (a .out)) _ (length-pairs (a .n) (a .residuals .now) (a .reaches .now) ∙ sym (p .record-places .ensures .rows-len)) (w .write-header .ensures) (c .before .before .write-pairs .ensures)
 
 pub write-rows-spec : {M : Type 1} → statement M
 write-rows-spec =
