@@ -30,19 +30,13 @@ const HIGHEST_32: u64 = COUNT_32 - 1;
 
 const HIGHEST_64: u64 = 18446744073709551615;
 
-fn byte(s: &[u8], at: usize) -> u16
-    requires { ⌜ at < length (now s) ⌝ }
-    ensures { λ r. ⌜ r ≡ be (take 1 (drop at (now (s .entry)))) ⌝ }
-    ensures { λ r. ⌜ r < 256 ⌝ }
-{
-    s[at] as u16
-}
-
 pub fn read_u16(s: &[u8], at: usize) -> u16
     requires { ⌜ at + size w16 ≤ length (now s) ⌝ }
     ensures { λ r. ⌜ r ≡ be (take (size w16) (drop at (now (s .entry)))) ⌝ }
 {
-    byte(s, at) * COUNT_8 + byte(s, at + 1)
+    let high = s[at] as u16;
+    let low = s[at + 1] as u16;
+    high * COUNT_8 + low
 }
 
 pub fn read_u32(s: &[u8], at: usize) -> u32

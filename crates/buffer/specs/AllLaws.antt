@@ -10,6 +10,14 @@ pub and-true : (a b : Bool) → (a && b) ≡ true → (a ≡ true) × (b ≡ tru
 and-true true b e = (refl, e)
 and-true false b e = absurd (false≢true e)
 
+-- one by one, for a search that runs them forwards
+module _ (a b : Bool) (e : (a && b) ≡ true) where
+  pub and-left : a ≡ true
+  and-left = and-true a b e .0
+
+  pub and-right : b ≡ true
+  and-right = and-true a b e .1
+
 module _ {X : Type 0} (p : X → Bool) where
   pub all-append : (a b : List X) → all p a ≡ true → all p b ≡ true → all p (a ++ b) ≡ true
   unfolding all

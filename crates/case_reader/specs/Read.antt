@@ -18,8 +18,8 @@ headOf s = record { status = Accepted; n = headTanks s; exponent = headExponent 
 abbrev pub HeadFound : List ℕ → Head → Type 0
 HeadFound s r = Answered Accepted (headStatus s) (headOf s) (r .status) r
 
--- room for the trial
-pub record TrialRoom (n : ℕ) (y : List ℤ) : Type 0 where
+-- the trial fits
+pub record TrialFits (n : ℕ) (y : List ℤ) : Type 0 where
   pub small : n ≤ mostTanks
   pub room : n ≤ length y
 

@@ -1,8 +1,9 @@
 // The reader of case files: bytes in, the case or the first refusal out.
 ghost use mathlib.Core.Path.{_≡_};
 ghost use lib.ListN.{drop};
-ghost use Rattle.casefile.specs.Decode.{endStatus, refused as refusedBy, decode, reading};
-ghost use Rattle.case_reader.specs.Read.{HeadFound, TrialRoom, TrialFound, TailFound};
+ghost use Rattle.casefile.specs.Layout.{rowsEnd};
+ghost use Rattle.casefile.specs.Decode.{refused as refusedBy, decode, reading};
+ghost use Rattle.case_reader.specs.Read.{HeadFound, TrialFits, TrialFound, TailFound};
 use casefile::Case;
 use casefile::Reading;
 use fields::HEADER_SIZE;
@@ -41,43 +42,46 @@ fn read_head(s: &[u8]) -> Head
     }
 }
 
-// The trial's field at a place of s, where the case brings one, its figures over the front of y.
-fn read_trial(s: &[u8], at: usize, rounds: usize, n: usize, y: &mut [i32]) -> Status
-    requires { ⌜ TrialRoom n (now y) ⌝ }
-    ensures { λ r. ⌜ TrialFound rounds n (drop at (now (s .entry))) (now (y .entry)) r (now (y .exit)) ⌝ }
+// The trial's field behind the rows, where the case brings one, its figures over the front of y.
+fn read_trial(s: &[u8], rounds: usize, n: usize, y: &mut [i32]) -> Status
+    requires { ⌜ TrialFits n (now y) ⌝ }
+    ensures { λ r. ⌜ TrialFound rounds n (drop (rowsEnd n) (now (s .entry))) (now (y .entry)) r (now (y .exit)) ⌝ }
 {
     if rounds != 0 {
         return Status::Accepted;
     }
-    let field = fields::check_field(s, at, casefile::TRIAL_TAG, casefile::trial_length(n));
+    let places = casefile::tail_places(rounds, n);
+    let field = fields::check_field(s, places.trial, casefile::TRIAL_TAG, places.len);
     if let Status::Refused(_) = field {
         return field;
     }
-    let fine = figures::read_i32s(s, at + HEADER_SIZE, limits::TRIAL_LIMIT, &mut y[..n]);
+    let fine = figures::read_i32s(
+        s,
+        places.trial + HEADER_SIZE,
+        limits::TRIAL_LIMIT,
+        &mut y[..n],
+    );
     outcome::check(fine, Refusal::OutsideLimits)
 }
 
-// The first refusal from the end field on, or none.
-fn read_end(s: &[u8], at: usize) -> Status
-    ensures { λ r. ⌜ r ≡ endStatus (drop at (now (s .entry))) ⌝ }
-{
-    let field = fields::check_field(s, at, fields::END_TAG, fields::END_LENGTH);
-    if let Status::Refused(_) = field {
-        return field;
-    }
-    outcome::check(s.len() - at == fields::END_SIZE, Refusal::TrailingBytes)
-}
-
 // The first refusal from the end of the rows on, or none; the trial's figures, where the case brings one, over the front of y.
-fn read_tail(s: &[u8], at: usize, rounds: usize, n: usize, y: &mut [i32]) -> Status
-    requires { ⌜ TrialRoom n (now y) ⌝ }
-    ensures { λ r. ⌜ TailFound rounds n (drop at (now (s .entry))) (now (y .entry)) r (now (y .exit)) ⌝ }
+fn read_tail(s: &[u8], rounds: usize, n: usize, y: &mut [i32]) -> Status
+    requires { ⌜ TrialFits n (now y) ⌝ }
+    ensures { λ r. ⌜ TailFound rounds n (drop (rowsEnd n) (now (s .entry))) (now (y .entry)) r (now (y .exit)) ⌝ }
 {
-    let trial = read_trial(s, at, rounds, n, y);
+    let trial = read_trial(s, rounds, n, y);
     if let Status::Refused(_) = trial {
         return trial;
     }
-    read_end(s, at + casefile::trial_size(rounds, n))
+    let places = casefile::tail_places(rounds, n);
+    let field = fields::check_field(s, places.end, fields::END_TAG, fields::END_LENGTH);
+    if let Status::Refused(_) = field {
+        return field;
+    }
+    outcome::check(
+        s.len() - places.end == fields::END_SIZE,
+        Refusal::TrailingBytes,
+    )
 }
 
 // A refusal, beside a case of zeros.
@@ -125,7 +129,7 @@ pub fn read_case(s: &[u8]) -> Reading
     if let Status::Refused(q) = rows {
         return refused(q);
     }
-    let tail = read_tail(s, casefile::rows_end(n), rounds, n, &mut y);
+    let tail = read_tail(s, rounds, n, &mut y);
     if let Status::Refused(q) = tail {
         return refused(q);
     }

@@ -52,7 +52,8 @@ pub fn read_and_write(s: &[u8], out: &mut [u8]) -> Outcome
     let n = case.n;
     let rounds = case.rounds;
     let square = n * n;
-    let brought = casefile::trial_count(rounds, n);
+    let tail = casefile::tail_places(rounds, n);
+    let brought = tail.count;
     let coefficients = case.coefficients;
     let tolerances = case.tolerances;
     let right_sides = case.right_sides;

@@ -14,7 +14,7 @@ use Rattle.figures.specs.FigureLaws.{length-spread}
 use Rattle.fields.specs.Field.{headerSize, header, endTag, endSize, endField}
 use Rattle.fields.specs.FieldLaws.{length-field, field-written}
 use Rattle.casefile.specs.Case.{Case}
-use Rattle.casefile.specs.Layout.{headTag, headValue, headField, rowsAt, rowsEnd, trialTag, trialKind, trialLength, trialSize, trialField, rowField, rowsIn, trialBytes, encode}
+use Rattle.casefile.specs.Layout.{headTag, headValue, headField, rowsAt, rowsEnd, trialTag, trialKind, trialLength, endAt, trialField, rowField, rowsIn, trialBytes, encode}
 use Rattle.casefile.specs.TailLaws.{length-trial}
 use Rattle.casefile.specs.CaseLaws.{Good, encode-is, length-rows-in}
 
@@ -27,7 +27,7 @@ trial-written out len y x0 y1 el e0 e1 =
     field-written trialTag len v out x0 (length-spread trialKind y ∙ sym el) e0 e1 ∙ ap (λ (d : List ℕ). onto d out) (sym (append-nil (trialField y)))
 
 module _ (c : Case) (g : Good c) where
-  pub fields-written : (tail end : ℕ) (out x0 y1 y2 y3 : List ℕ) → tail ≡ rowsEnd (c .n) → end ≡ tail + trialSize (c .rounds) (c .n)
+  pub fields-written : (tail end : ℕ) (out x0 y1 y2 y3 : List ℕ) → tail ≡ rowsEnd (c .n) → end ≡ endAt (c .rounds) (c .n)
       → x0 ≡ onto (headField (c .n) (c .exponent) (c .rounds)) out
       → y1 ≡ onto (joined rowField (rowsIn c)) (part x0 rowsAt)
       → y2 ≡ onto (trialBytes (c .rounds) (c .trial)) (part (put x0 rowsAt y1) tail)

@@ -1,16 +1,12 @@
--- What the writer's inner functions ask: room in the buffer, n, e and K within their limits, and a trial that has the count due.
+-- What the writer of the trial asks: room in the buffer, n within its limit, and a trial that has the count due.
 use mathlib.Core.Path.{_≡_}
 use mathlib.Core.List.{List}
 use Prim.Native.Nat.{ℕ, _≤_}
 use lib.ListN.{length}
 use lib.IntN.{ℤ}
 use Rattle.limits.specs.Limits.{mostTanks}
-use Rattle.casefile.specs.Case.{HeadSmall, trialCount}
-use Rattle.casefile.specs.Layout.{rowsAt, trialSize}
-
-pub record HeadRoom (out : List ℕ) (n exponent rounds : ℕ) : Type 0 where
-  pub room : rowsAt ≤ length out
-  pub limits : HeadSmall n exponent rounds
+use Rattle.casefile.specs.Case.{trialCount}
+use Rattle.casefile.specs.Layout.{trialSize}
 
 pub record TrialRoom (out : List ℕ) (rounds n : ℕ) (y : List ℤ) : Type 0 where
   pub room : trialSize rounds n ≤ length out

@@ -4,44 +4,14 @@ ghost use Prim.Native.Nat.{_≤_};
 ghost use lib.ListN.{length};
 ghost use Rattle.outcome.specs.declared.Status.the-variants.{Accepted};
 ghost use Rattle.buffer.specs.Buffer.{onto, Wrote};
-ghost use Rattle.limits.specs.Limits.{mostTanks};
-ghost use Rattle.casefile.specs.Case.{given, counted, figuresFine, caseStatus};
-ghost use Rattle.casefile.specs.Layout.{headField, longestCase, encode, trialBytes};
+ghost use Rattle.casefile.specs.Case.{given, caseStatus};
+ghost use Rattle.casefile.specs.Layout.{longestCase, encode, trialBytes};
 ghost use Rattle.casefile.specs.Write.{write, leaves};
-ghost use Rattle.case_writer.specs.Room.{HeadRoom, TrialRoom};
+ghost use Rattle.case_writer.specs.Room.{TrialRoom};
 use fields::HEADER_SIZE;
 use outcome::Outcome;
 use outcome::Refusal;
 use outcome::Status;
-
-// Whether each list has the count due.
-fn counts_fine(
-    n: usize,
-    rounds: usize,
-    a: &[i16],
-    t: &[u16],
-    b: &[i32],
-    f: &[u32],
-    y: &[i32],
-) -> bool
-    requires { ⌜ n ≤ mostTanks ⌝ }
-    ensures { λ r. ⌜ r ≡ counted (given n 0 rounds (now (a .entry)) (now (t .entry)) (now (b .entry)) (now (f .entry)) (now (y .entry))) ⌝ }
-{
-    a.len() == n * n
-        && (t.len() == n * n
-            && (b.len() == n && (f.len() == n && y.len() == casefile::trial_count(rounds, n))))
-}
-
-// Whether each figure of the lists is within its limits.
-fn figures_fine(a: &[i16], t: &[u16], b: &[i32], f: &[u32], y: &[i32]) -> bool
-    ensures { λ r. ⌜ r ≡ figuresFine (given 0 0 0 (now (a .entry)) (now (t .entry)) (now (b .entry)) (now (f .entry)) (now (y .entry))) ⌝ }
-{
-    figures::all_i16(a, limits::COEFFICIENT_LIMIT)
-        && (figures::all_u16(t, limits::TOLERANCE_LIMIT)
-            && (figures::all_i32(b, limits::RIGHT_SIDE_LIMIT)
-                && (figures::all_u32(f, limits::RIGHT_TOLERANCE_LIMIT)
-                    && figures::all_i32(y, limits::TRIAL_LIMIT))))
-}
 
 // The first refusal of a case that is to be written, or none.
 fn check_case(
@@ -59,21 +29,18 @@ fn check_case(
     if !casefile::head_fine(n, exponent, rounds) {
         return Status::Refused(Refusal::OutsideLimits);
     }
-    if !counts_fine(n, rounds, a, t, b, f, y) {
+    let tail = casefile::tail_places(rounds, n);
+    let counted = (a.len() == n * n)
+        & ((t.len() == n * n) & ((b.len() == n) & ((f.len() == n) & (y.len() == tail.count))));
+    if !counted {
         return Status::Refused(Refusal::WrongLength);
     }
-    outcome::check(figures_fine(a, t, b, f, y), Refusal::OutsideLimits)
-}
-
-// The head's field, over the front of out.
-fn write_head(out: &mut [u8], n: usize, exponent: usize, rounds: usize)
-    requires { ⌜ HeadRoom (now out) n exponent rounds ⌝ }
-    ensures { λ _. ⌜ now (out .exit) ≡ onto (headField n exponent rounds) (now (out .entry)) ⌝ }
-{
-    fields::write_header(out, casefile::HEAD_TAG, casefile::HEAD_LENGTH as u16);
-    out[casefile::N_AT] = n as u8;
-    out[casefile::EXPONENT_AT] = exponent as u8;
-    out[casefile::ROUNDS_AT] = rounds as u8;
+    let rows = figures::all_i16(a, limits::COEFFICIENT_LIMIT)
+        & (figures::all_u16(t, limits::TOLERANCE_LIMIT)
+            & (figures::all_i32(b, limits::RIGHT_SIDE_LIMIT)
+                & figures::all_u32(f, limits::RIGHT_TOLERANCE_LIMIT)));
+    let trial = figures::all_i32(y, limits::TRIAL_LIMIT);
+    outcome::check(rows & trial, Refusal::OutsideLimits)
 }
 
 // The trial's field, where the case brings a trial, over the front of out.
@@ -82,8 +49,8 @@ fn write_trial(out: &mut [u8], rounds: usize, n: usize, y: &[i32])
     ensures { λ _. ⌜ now (out .exit) ≡ onto (trialBytes rounds (now (y .entry))) (now (out .entry)) ⌝ }
 {
     if rounds == 0 {
-        let length = casefile::trial_length(n);
-        fields::write_header(out, casefile::TRIAL_TAG, length as u16);
+        let tail = casefile::tail_places(rounds, n);
+        fields::write_header(out, casefile::TRIAL_TAG, tail.len as u16);
         figures::write_i32s(&mut out[HEADER_SIZE..], y);
     }
 }
@@ -104,11 +71,15 @@ fn write_fields(
     requires { ⌜ caseStatus (given n exponent rounds (now a) (now t) (now b) (now f) (now y)) ≡ Accepted ⌝ }
     ensures { λ r. ⌜ Wrote (encode (given n exponent rounds (now (a .entry)) (now (t .entry)) (now (b .entry)) (now (f .entry)) (now (y .entry)))) 0 (now (out .entry)) r (now (out .exit)) ⌝ }
 {
-    write_head(out, n, exponent, rounds);
+    fields::write_header(out, casefile::HEAD_TAG, casefile::HEAD_LENGTH as u16);
+    out[casefile::N_AT] = n as u8;
+    out[casefile::EXPONENT_AT] = exponent as u8;
+    out[casefile::ROUNDS_AT] = rounds as u8;
     row_writer::write_rows(&mut out[casefile::ROWS_AT..], n, a, t, b, f);
-    let tail = casefile::rows_end(n);
-    write_trial(&mut out[tail..], rounds, n, y);
-    let end = tail + casefile::trial_size(rounds, n);
+    let tail = casefile::tail_places(rounds, n);
+    let trial = tail.trial;
+    let end = tail.end;
+    write_trial(&mut out[trial..], rounds, n, y);
     fields::write_end(&mut out[end..]);
     end + fields::END_SIZE
 }

@@ -1,12 +1,15 @@
--- What the check of a field and the test of its value answer together. Assumes nothing.
+-- What the check of a field and the test of its value answer together, and what a run of figures that was read at a place answers of the value there.
+-- Assumes nothing.
 use mathlib.Core.Path.{_≡_, sym, _∙_}
 use mathlib.Core.Bool.{Bool, true}
+use mathlib.Core.List.{List}
+use Prim.Native.Nat.{ℕ}
 use Rattle.outcome.specs.declared.Refusal.{Refusal}
 use Rattle.outcome.specs.declared.Status.{Status}
 use Rattle.outcome.specs.declared.Status.the-variants.{Accepted, Refused}
 use Rattle.outcome.specs.Outcome.{check, first}
 use Rattle.outcome.specs.Laws.{stops, first-goes-on, not-both, check-accepted}
-use Rattle.figures.specs.Figures.{Answered}
+use Rattle.figures.specs.Figures.{Kind, figures, Answered, RunAnswered}
 
 module _ {A : Type 0} {value out : A} {x s : Status} (e : x ≡ s) where
   -- the field is refused
@@ -18,3 +21,8 @@ module _ {A : Type 0} {value out : A} {x s : Status} (e : x ≡ s) where
       → Answered Accepted (first s (check due r)) value status out
   answer-goes-on r {due} {passed} g w h =
       record { status = h ∙ rw (w .status) (first-goes-on s (check due r) (sym e ∙ g)); made = λ y. w .made (check-accepted passed r (sym h ∙ y)) }
+
+-- the bytes from the place on are v
+pub run-at : {X : Type 0} (k : Kind X) (f : X → Bool) {u v : List ℕ} {m n : ℕ} {exit : List X} {r : Bool} → u ≡ v → m ≡ n
+    → RunAnswered f (figures k m u) r exit → RunAnswered f (figures k n v) r exit
+run-at k f e g h = rw (e, g) at h

@@ -7,7 +7,6 @@ use Prim.Native.Nat.{ℕ, _+_, _*_, _≤_}
 use native.Mathlib.Omega.{arith}
 use lib.ListN.{length, drop, length-append}
 use lib.Seq.{drop-drop, drop-at}
-use lib.Dec.{leb, eqb}
 use borrow.Author.Tests.{leb-true, le-leb, eqb-true, eq-eqb}
 use Rattle.outcome.specs.declared.Refusal.the-variants.{WrongLength, OutsideLimits}
 use Rattle.outcome.specs.declared.Status.{Status}
@@ -19,12 +18,12 @@ use Rattle.buffer.specs.Buffer.{joined}
 use Rattle.buffer.specs.RunLaws.{joined-append, concat-map}
 use Rattle.figures.specs.Figures.{within}
 use Rattle.figures.specs.ItemLaws.{length-items}
-use Rattle.buffer.specs.AllLaws.{and-true}
+use Rattle.buffer.specs.AllLaws.{and-left, and-right}
 use Rattle.fields.specs.Field.{headerSize, afterField, field, endTag, endSize, endField}
 use Rattle.fields.specs.FieldLaws.{length-field}
-use Rattle.limits.specs.Limits.{mostTanks, mostExponent, mostRounds, trialLimit}
+use Rattle.limits.specs.Limits.{trialLimit}
 use Rattle.rows.specs.Block.{Counts}
-use Rattle.casefile.specs.Case.{Case, headFine, HeadSmall, trialCount, counted, rowsFine, figuresFine, caseStatus}
+use Rattle.casefile.specs.Case.{Case, headFine, HeadSmall, trialCount, counted, figuresFine, caseStatus}
 use Rattle.casefile.specs.Layout.{headTag, headLength, headValue, headField, rowsAt, rowSize, rowsEnd, longestCase, rowField, rowsIn, trialLength, trialSize, trialFields, trialBytes, encode}
 use Rattle.casefile.specs.Decode.{headDue, headTanks, headExponent, headRounds, headStatus, rowsStatus, rowsOf, trialStatus, endStatus, tailStatus, afterHead, afterRows, inputStatus, caseOf, accepted, decoded, decode}
 use Rattle.casefile.specs.DueLaws.{due-back, due-fine, due-same}
@@ -37,20 +36,10 @@ use Rattle.casefile.specs.TailLaws.{brought-most, length-trial, trial-ba
 
 module _ (n exponent rounds : ℕ) where
   pub head-small : headFine n exponent rounds ≡ true → HeadSmall n exponent rounds
-  head-small h =
-      let h1 = and-true (leb 1 n) _ h in
-      let h2 = and-true (leb n mostTanks) _ (h1 .1) in
-      let h3 = and-true (leb exponent mostExponent) _ (h2 .1) in
-      record {
-        least = leb-true _ _ (h1 .0);
-        small = leb-true _ _ (h2 .0);
-        exponent-small = leb-true _ _ (h3 .0);
-        rounds-small = leb-true _ _ (h3 .1);
-      }
+  head-small h = search (and-left, and-right, leb-true)
 
   small-head : HeadSmall n exponent rounds → headFine n exponent rounds ≡ true
-  small-head h =
-      rw (le-leb 1 n (h .least), le-leb n mostTanks (h .small), le-leb exponent mostExponent (h .exponent-small), le-leb rounds mostRounds (h .rounds-small))
+  small-head h = search le-leb
 
 pub head-limits : (s : List ℕ) → headStatus s ≡ Accepted → HeadSmall (headTanks s) (headExponent s) (headRounds s)
 unfolding headStatus
@@ -69,32 +58,14 @@ module _ (c : Case) where
   good e =
       let w1 = check-then (headFine (c .n) (c .exponent) (c .rounds)) OutsideLimits _ e in
       let w2 = check-then (counted c) WrongLength _ (w1 .1) in
-      let c1 = and-true (eqb (length (c .rows .coefficients)) (c .n * c .n)) _ (w2 .0) in
-      let c2 = and-true (eqb (length (c .rows .tolerances)) (c .n * c .n)) _ (c1 .1) in
-      let c3 = and-true (eqb (length (c .rows .right-sides)) (c .n)) _ (c2 .1) in
-      let c4 = and-true (eqb (length (c .rows .right-tolerances)) (c .n)) _ (c3 .1) in
-      let f = and-true (rowsFine (c .rows)) _ (check-accepted (figuresFine c) OutsideLimits (w2 .1)) in
-      let counts : Counts (c .n * c .n) (c .n) (c .rows) =
-      record { la = eqb-true _ _ (c1 .0); lt = eqb-true _ _ (c2 .0); lb = eqb-true _ _ (c3 .0); lf = eqb-true _ _ (c4 .0) } in
-      record {
-        limits = head-small (c .n) (c .exponent) (c .rounds) (w1 .0);
-        rows = sound counts (f .0);
-        trial = record { count = eqb-true _ _ (c4 .1); fine = f .1 };
-      }
+      let f = check-accepted (figuresFine c) OutsideLimits (w2 .1) in
+      let limits = head-small (c .n) (c .exponent) (c .rounds) (w1 .0) in
+      let counts : Counts (c .n * c .n) (c .n) (c .rows) = search (w2 .0, and-left, and-right, eqb-true) in
+      search (w2 .0, and-left, and-right, eqb-true, sound)
 
   accepts : Good c → caseStatus c ≡ Accepted
   unfolding caseStatus counted figuresFine
-  accepts g =
-      rw (
-        small-head _ _ _ (g .limits),
-        eq-eqb _ _ (g .rows .a .count),
-        eq-eqb _ _ (g .rows .t .count),
-        eq-eqb _ _ (g .rows .b .count),
-        eq-eqb _ _ (g .rows .f .count),
-        eq-eqb _ _ (g .trial .count),
-        sound-fine (g .rows),
-        g .trial .fine,
-      )
+  accepts g = search (small-head, eq-eqb, sound-fine (g .rows), g .trial .fine)
 
 -- ---- the encoding, field after field
 

@@ -54,10 +54,11 @@ module _ {A : Type 0} (d : Due A) (s : List ℕ) (accepted : dueStatus d s ≡ A
 pub due-room-at : {A : Type 0} (d : Due A) (s : List ℕ) (at : ℕ) → dueStatus d (drop at s) ≡ Accepted → at + (headerSize + d .len) ≤ length s
 due-room-at d s at e = field-room-at (d .tag) (d .len) s at refl (two d (drop at s) e .0)
 
--- the check of a field that is due at a place, by the length that was computed
+-- the check of a field that is due at a place, by the place and the length that were computed
 pub record Checked {A : Type 0} (d : Due A) (s : List ℕ) (at : ℕ) (x : Status) : Type 0 where
   pub is : x ≡ fieldStatus (d .tag) (d .len) (drop at s)
   pub room : x ≡ Accepted → at + (headerSize + d .len) ≤ length s
 
-pub checked : {A : Type 0} (d : Due A) (s : List ℕ) (at len : ℕ) {x : Status} → len ≡ d .len → x ≡ fieldStatus (d .tag) len (drop at s) → Checked d s at x
-checked d s at len l e = let w = rw l at e in record { is = w; room = field-room-at (d .tag) (d .len) s at w }
+pub checked : {A : Type 0} (d : Due A) (s : List ℕ) (at : ℕ) {place len : ℕ} {x : Status} → place ≡ at → len ≡ d .len
+    → x ≡ fieldStatus (d .tag) len (drop place s) → Checked d s at x
+checked d s at p l e = let w = rw (p, l) at e in record { is = w; room = field-room-at (d .tag) (d .len) s at w }

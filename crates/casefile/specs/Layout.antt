@@ -8,7 +8,8 @@ use Rattle.figures.specs.Figures.{Kind, i16, u16, i32, u32, spread}
 use Rattle.fields.specs.Field.{headerSize, field, endField}
 use Rattle.rows.specs.Block.{Block, split}
 use Rattle.casefile.specs.declared.RowPlaces.{RowPlaces}
-use Rattle.casefile.specs.Case.{Case, whereBrought}
+use Rattle.casefile.specs.declared.TailPlaces.{TailPlaces}
+use Rattle.casefile.specs.Case.{Case, whereBrought, trialCount}
 
 -- ---- fields and their lengths
 
@@ -83,6 +84,17 @@ trialLength n = trialKind .width * n
 
 abbrev pub trialSize : ℕ → ℕ → ℕ
 trialSize k n = whereBrought k (headerSize + trialLength n) 0
+
+-- where the end field stands
+abbrev pub endAt : ℕ → ℕ → ℕ
+endAt k n = rowsEnd n + trialSize k n
+
+-- the places, the count and the length of what follows n rows, as the program holds them
+pub record TailPlaced (k n : ℕ) (r : TailPlaces) : Type 0 where
+  pub trial : r .trial ≡ rowsEnd n
+  pub count : r .count ≡ trialCount k n
+  pub len : r .len ≡ trialLength n
+  pub end : r .end ≡ endAt k n
 
 -- "The longest case has 388 bytes."
 abbrev pub longestCase : ℕ

@@ -1,6 +1,6 @@
 -- A row and its bytes: a row that was written is read back, and the bytes that are read as a row are the row's.
 -- Assumes nothing.
-use mathlib.Core.Path.{_≡_, sym, ap, _∙_}
+use mathlib.Core.Path.{_≡_, _∙_}
 use mathlib.Core.List.{List, _++_, append-assoc}
 use Prim.Native.Nat.{ℕ, _+_, _*_, _≤_}
 use native.Mathlib.Omega.{arith}
@@ -9,7 +9,7 @@ use lib.Seq.{drop-drop}
 use Rattle.outcome.specs.declared.Status.the-variants.{Accepted}
 use Rattle.bigendian.specs.Number.{Bytes}
 use Rattle.bigendian.specs.NumberLaws.{bytes-drop}
-use Rattle.figures.specs.Figures.{i16, u16, i32, u32, after, spread}
+use Rattle.figures.specs.Figures.{i16, u16, i32, u32, after}
 use Rattle.figures.specs.ItemLaws.{length-items}
 use Rattle.figures.specs.FigureLaws.{length-spread, after-spread, figures-spread, spread-figures}
 use Rattle.fields.specs.Field.{valueOf, afterField}
@@ -25,10 +25,10 @@ use Rattle.casefile.specs.SoundLaws.{SoundBlock, counts, sound, sound-fi
 -- the places of a row's figures in its value
 module _ (n : ℕ) (v : List ℕ) where
   pub at-right-side : drop (rightSideAt n) v ≡ after u16 n (after i16 n v)
-  at-right-side = sym (drop-drop (u16 .width * n) (i16 .width * n) v)
+  at-right-side = simp drop-drop
 
   pub at-right-tolerance : drop (rightToleranceAt n) v ≡ after i32 1 (after u16 n (after i16 n v))
-  at-right-tolerance = sym (drop-drop (i32 .width * 1) (rightSideAt n) v) ∙ ap (drop (i32 .width * 1)) at-right-side
+  at-right-tolerance = simp drop-drop
 
 -- how long a row is, by its counts
 module _ {n : ℕ} {r : Block} (c : Counts n 1 r) where
@@ -43,19 +43,16 @@ module _ {n : ℕ} {r : Block} (s : SoundBlock n 1 r) (rest : List ℕ) where
   value-back : rowOf n (rowBytes r ++ rest) ≡ r
   unfolding rowBytes rowOf
   value-back =
-      let F : List ℕ = spread u32 (r .right-tolerances) ++ rest in
-      let B : List ℕ = spread i32 (r .right-sides) ++ F in
-      let T : List ℕ = spread u16 (r .tolerances) ++ B in
-      simp append-assoc
-      (rw (
-        after-spread i16 n (r .coefficients) T (s .a .count),
-        after-spread u16 n (r .tolerances) B (s .t .count),
-        after-spread i32 1 (r .right-sides) F (s .b .count),
-        figures-spread i16 _ coefficient-lawful n (r .coefficients) T (s .a .count) (s .a .fine),
-        figures-spread u16 _ tolerance-lawful n (r .tolerances) B (s .t .count) (s .t .fine),
-        figures-spread i32 _ right-side-lawful 1 (r .right-sides) F (s .b .count) (s .b .fine),
-        figures-spread u32 _ right-tolerance-lawful 1 (r .right-tolerances) rest (s .f .count) (s .f .fine),
-      ))
+      search (
+        append-assoc,
+        after-spread i16,
+        after-spread u16,
+        after-spread i32,
+        figures-spread i16 _ coefficient-lawful,
+        figures-spread u16 _ tolerance-lawful,
+        figures-spread i32 _ right-side-lawful,
+        figures-spread u32 _ right-tolerance-lawful,
+      )
 
   -- a row's field that was written
   pub row-back : n ≤ mostTanks → DueBack (rowDue n) r rest
@@ -65,7 +62,7 @@ module _ {n : ℕ} {r : Block} (s : SoundBlock n 1 r) (rest : List ℕ) where
 
 row-counts : (n : ℕ) (v : List ℕ) → Counts n 1 (rowOf n v)
 unfolding rowOf
-row-counts n v = record { la = length-items _ _ n _; lt = length-items _ _ n _; lb = length-items _ _ 1 _; lf = length-items _ _ 1 _ }
+row-counts n v = search length-items
 
 module _ (n : ℕ) (s : List ℕ) (accepted : rowStatus n s ≡ Accepted) where
   pub row-sound : SoundBlock n 1 (rowAt n s)
@@ -79,23 +76,21 @@ module _ (n : ℕ) (s : List ℕ) (accepted : rowStatus n s ≡ Accepted) where
       let v1 : List ℕ = after i16 n v in
       let v2 : List ℕ = after u16 n v1 in
       let v3 : List ℕ = after i32 1 v2 in
-      let l1 : u16 .width * n ≤ length (after i16 n v) = simp length-drop (omega arith) in
-      let l2 : i32 .width * 1 ≤ length (after u16 n (after i16 n v)) = simp length-drop (omega arith) in
-      let l3 : u32 .width * 1 ≤ length (after i32 1 (after u16 n (after i16 n v))) = simp length-drop (omega arith) in
-      let b1 = bytes-drop (i16 .width * n) bv in
-      let b2 = bytes-drop (u16 .width * n) b1 in
-      let b3 = bytes-drop (i32 .width * 1) b2 in
-      let k : rightToleranceAt n + u32 .width * 1 ≡ rowLength n = omega arith in
-      let d : drop (rowLength n) v ≡ after u32 1 v3 =
-      rw (← k) (sym (drop-drop (u32 .width * 1) (rightToleranceAt n) v) ∙ ap (drop (u32 .width * 1)) (at-right-tolerance n v)) in
-      simp append-assoc
-      (rw (
+      let l0 : i16 .width * n ≤ length v = omega arith in
+      let l1 : u16 .width * n ≤ length v1 = simp length-drop (omega arith) in
+      let l2 : i32 .width * 1 ≤ length v2 = simp length-drop (omega arith) in
+      let l3 : u32 .width * 1 ≤ length v3 = simp length-drop (omega arith) in
+      let k : rowLength n ≡ rightToleranceAt n + u32 .width * 1 = omega arith in
+      let d : drop (rowLength n) v ≡ after u32 1 v3 = simp (k, drop-drop) in
+      search (
+        append-assoc,
         d,
-        spread-figures u32 _ right-tolerance-lawful 1 v3 b3 l3,
-        spread-figures i32 _ right-side-lawful 1 v2 b2 l2,
-        spread-figures u16 _ tolerance-lawful n v1 b1 l1,
+        bytes-drop,
+        spread-figures u32 _ right-tolerance-lawful,
+        spread-figures i32 _ right-side-lawful,
+        spread-figures u16 _ tolerance-lawful,
+        spread-figures i16 _ coefficient-lawful,
       )
-      (spread-figures i16 _ coefficient-lawful n v bv (omega arith)))
 
   pub row-same : Bytes s → rowField (rowAt n s) ++ afterField (rowLength n) s ≡ s
   unfolding rowStatus

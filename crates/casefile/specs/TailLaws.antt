@@ -2,7 +2,7 @@
 -- Assumes nothing.
 use mathlib.Core.Path.{_≡_, refl, sym, _∙_}
 use mathlib.Core.List.{List, [], _∷_, _++_, append-nil}
-use Prim.Native.Nat.{ℕ, zero, suc, _+_, _≤_, _<_}
+use Prim.Native.Nat.{ℕ, zero, suc, _≤_}
 use native.Mathlib.Omega.{arith}
 use native.Mathlib.Nat.{le-of-eq}
 use lib.ListN.{length, drop, drop-of-length-le}
@@ -22,7 +22,7 @@ use Rattle.limits.specs.Limits.{mostTanks, trialLimit}
 use Rattle.casefile.specs.Case.{whereBrought, trialCount}
 use Rattle.casefile.specs.Layout.{trialTag, trialKind, trialLength, trialSize, trialField, trialBytes}
 use Rattle.casefile.specs.Decode.{trialDue, trialStatus, trialOf, endStatus}
-use Rattle.casefile.specs.DueLaws.{FieldBack, due-back, due-fine, due-room-at, due-same}
+use Rattle.casefile.specs.DueLaws.{FieldBack, due-back, due-fine, due-same}
 use Rattle.casefile.specs.KindLaws.{trial-lawful}
 use Rattle.casefile.specs.SoundLaws.{Sound}
 
@@ -70,13 +70,6 @@ trial-same zero n s e bs =
     (due-same (trialDue n) s e bs
     (λ v b h. (length-spread trialKind (figures trialKind n v) ∙ rw (length-items _ _ n v), spread-figures trialKind _ trial-lawful n v b h)))
 trial-same (suc k) n s e bs = refl
-
--- what follows it stands at a place that a number below b has, where the trial's place and the input's length are
-pub trial-place : (k n : ℕ) (s : List ℕ) (at b : ℕ) → at < b → length s < b → trialStatus k n (drop at s) ≡ Accepted → at + trialSize k n < b
-unfolding trialStatus
-trial-place zero n s at b h l e =
-    omega (arith, due-room-at (trialDue n) s at e)
-trial-place (suc k) n s at b h l e = omega arith
 
 -- ---- the end
 

@@ -1,9 +1,9 @@
-// A case as the program holds it, what reading gives, whether n, e and K are within their limits, how many figures the trial has, and the tags, lengths and places of its fields in bytes.
+// A case as the program holds it, what reading gives, whether n, e and K are within their limits, and the tags, lengths and places of its fields in bytes.
 ghost use mathlib.Core.Path.{_≡_};
 ghost use Prim.Native.Nat.{_≤_};
 ghost use Rattle.limits.specs.Limits.{mostTanks};
-ghost use Rattle.casefile.specs.Case.{headFine, trialCount};
-ghost use Rattle.casefile.specs.Layout.{RowPlaced, rowsEnd, trialLength, trialSize};
+ghost use Rattle.casefile.specs.Case.{headFine};
+ghost use Rattle.casefile.specs.Layout.{RowPlaced, TailPlaced};
 use bigendian::SIZE_16;
 use bigendian::SIZE_32;
 use limits::MOST_COEFFICIENTS;
@@ -58,19 +58,21 @@ pub struct RowPlaces {
     pub size: usize,
 }
 
+// What follows the rows of n tanks: where the trial's field begins, how many figures the trial has, how long its value is, and where the end field begins.
+pub struct TailPlaces {
+    pub trial: usize,
+    pub count: usize,
+    pub len: usize,
+    pub end: usize,
+}
+
 // Whether n, the exponent and the rounds are within their limits.
 pub fn head_fine(n: usize, exponent: usize, rounds: usize) -> bool
     ensures { λ r. ⌜ r ≡ headFine n exponent rounds ⌝ }
 {
-    1 <= n
-        && (n <= MOST_TANKS && (exponent <= limits::MOST_EXPONENT && rounds <= limits::MOST_ROUNDS))
-}
-
-// How many figures the trial has: none where K is above 0.
-pub fn trial_count(rounds: usize, n: usize) -> usize
-    ensures { λ r. ⌜ r ≡ trialCount rounds n ⌝ }
-{
-    if rounds == 0 { n } else { 0 }
+    (1 <= n)
+        & ((n <= MOST_TANKS)
+            & ((exponent <= limits::MOST_EXPONENT) & (rounds <= limits::MOST_ROUNDS)))
 }
 
 // Where a row's tolerances, right side and its tolerance stand in the row's value, each behind the figures before it; how long the value is; and the bytes of
@@ -92,31 +94,27 @@ pub fn row_places(n: usize) -> RowPlaces
     }
 }
 
-// Where the rows end, and what follows them begins.
-pub fn rows_end(n: usize) -> usize
+// The trial has no figures, and its field no bytes, where K is above 0.
+pub fn tail_places(rounds: usize, n: usize) -> TailPlaces
     requires { ⌜ n ≤ mostTanks ⌝ }
-    ensures { λ r. ⌜ r ≡ rowsEnd n ⌝ }
+    ensures { λ r. ⌜ TailPlaced rounds n r ⌝ }
 {
     let row = row_places(n);
-    ROWS_AT + n * row.size
-}
-
-// The length of the trial's value: n figures of four bytes.
-pub fn trial_length(n: usize) -> usize
-    requires { ⌜ n ≤ mostTanks ⌝ }
-    ensures { λ r. ⌜ r ≡ trialLength n ⌝ }
-{
-    n * SIZE_32
-}
-
-// The bytes of the trial's field, header and value: none where K is above 0.
-pub fn trial_size(rounds: usize, n: usize) -> usize
-    requires { ⌜ n ≤ mostTanks ⌝ }
-    ensures { λ r. ⌜ r ≡ trialSize rounds n ⌝ }
-{
+    let trial = ROWS_AT + n * row.size;
+    let len = n * SIZE_32;
     if rounds == 0 {
-        fields::HEADER_SIZE + trial_length(n)
+        TailPlaces {
+            trial,
+            count: n,
+            len,
+            end: trial + fields::HEADER_SIZE + len,
+        }
     } else {
-        0
+        TailPlaces {
+            trial,
+            count: 0,
+            len,
+            end: trial,
+        }
     }
 }

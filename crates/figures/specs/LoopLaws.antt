@@ -12,21 +12,21 @@ use lib.ListN.{length, getD, take, drop, set, length-set, drop-of-length-le}
 use lib.Seq.{drop-cons, drop-drop, take-suc-set, append-snoc, take-all}
 use lib.Signed.{mag}
 use lib.Dec.{T, leb}
-use lib.IntN.{ℤ}
+use lib.IntN.{ℤ, natAbs}
 use mir.Syntax.{Width, w64}
 use mir.Val.{hbits, toZ, ofZ}
 use Rattle.integers.specs.Signed.{wide-is}
 use Rattle.buffer.specs.Buffer.{onto, run, all}
 use Rattle.buffer.specs.RunLaws.{joined-run, Running, run-joined}
-use Rattle.figures.specs.Figures.{Kind, within, items, figureAt, figures, figureBytes, spread, Read}
+use Rattle.figures.specs.Figures.{Kind, upTo, within, items, figureAt, figures, figureBytes, spread, Read}
 
 pub impossible : {P : Type 0} → false ≡ true → P
 impossible e = absurd (false≢true e)
 
--- the test of a signed figure of a width, made in 64 bits
-pub tested : (w : Width) → T (leb (hbits w) (hbits w64)) → (z : ℤ) → mag z < 2 ^ hbits w → (limit : ℕ) {r b : Bool}
-    → r ≡ within limit (toZ w64 (ofZ w64 (toZ w (ofZ w z)))) → r ≡ b → within limit z ≡ b
-tested w narrow z h limit e g = sym (rw (wide-is w narrow z (record { sfits = h })) at e) ∙ g
+-- the test of a signed figure of a width, whose size was found in 64 bits
+pub tested : (w : Width) → T (leb (hbits w) (hbits w64)) → (z : ℤ) → mag z < 2 ^ hbits w → (limit : ℕ) {m : ℕ} {b : Bool}
+    → m ≡ natAbs (toZ w64 (ofZ w64 (toZ w (ofZ w z)))) → upTo limit m ≡ b → within limit z ≡ b
+tested w narrow z h limit e g = rw (e, wide-is w narrow z (record { sfits = h })) at g
 
 -- what is left is the next one, and what is left behind it
 left : (n i : ℕ) → i < n → n - i ≡ suc (n - (i + 1))
@@ -35,22 +35,22 @@ left n i h = omega arith
 -- ---- reading n items from `at` on, of which i are done: what is left, read on from p, gives the answer and the items of the whole
 
 module _ {A S : Type 0} (w : ℕ) (item : List ℕ → A) (answer : ℕ → List ℕ → S) (n : ℕ) (s : List ℕ) (at : ℕ) where
-  pub record Reading (done : List A) (i p : ℕ) : Type 0 where
+  pub record ReadingItems (done : List A) (i p : ℕ) : Type 0 where
     pub count : i ≤ n
     status : answer (n - i) (drop p s) ≡ answer n (drop at s)
     made : done ++ items w item (n - i) (drop p s) ≡ items w item n (drop at s)
 
 module _ {A S : Type 0} {w : ℕ} {item : List ℕ → A} {answer : ℕ → List ℕ → S} {n : ℕ} {s : List ℕ} {at : ℕ} where
-  pub begun : Reading w item answer n s at [] 0 at
+  pub begun : ReadingItems w item answer n s at [] 0 at
   begun = record { count = omega arith; status = rw (sub-zero n); made = rw (sub-zero n) }
 
-  module _ {done : List A} {i p : ℕ} (r : Reading w item answer n s at done i p) where
+  module _ {done : List A} {i p : ℕ} (r : ReadingItems w item answer n s at done i p) where
     -- the next item's answer is the whole's
     pub stopped : i < n → {x : S} → ((m : ℕ) → x ≡ answer (suc m) (drop p s)) → x ≡ answer n (drop at s)
     stopped h e = e _ ∙ rw (left n i h) at (r .status)
 
     -- the whole's answer is what the items behind the next one give
-    pub turn : i < n → ((m : ℕ) → answer m (drop w (drop p s)) ≡ answer (suc m) (drop p s)) → Reading w item answer n s at (done ++ (item (drop p s) ∷ [])) (i + 1) (p + w)
+    pub turn : i < n → ((m : ℕ) → answer m (drop w (drop p s)) ≡ answer (suc m) (drop p s)) → ReadingItems w item answer n s at (done ++ (item (drop p s) ∷ [])) (i + 1) (p + w)
     unfolding items
     turn h e =
         record {
@@ -69,7 +69,7 @@ module _ {X : Type 0} (k : Kind X) (f : X → Bool) (s : List ℕ) (at : ℕ) (o
   pub record ReadingFigures (out : List X) (i p : ℕ) : Type 0 where
     pub room : p + k .width * (length out₀ - i) ≤ length s
     pub same : length out ≡ length out₀
-    pub read : Reading (k .width) (figureAt k) (λ m v. all f (figures k m v)) (length out₀) s at (take i out) i p
+    pub read : ReadingItems (k .width) (figureAt k) (λ m v. all f (figures k m v)) (length out₀) s at (take i out) i p
 
 module _ {X : Type 0} {k : Kind X} {f : X → Bool} {s : List ℕ} {at : ℕ} {out₀ : List X} where
   pub read-begun : at + k .width * length out₀ ≤ length s → ReadingFigures k f s at out₀ out₀ 0 at
@@ -134,9 +134,9 @@ module _ {X : Type 0} (k : Kind X) (d : X) (l : List X) where
   unfolding spread
   spread-run i h = joined-run (figureBytes k) d l i h
 
-  abbrev pub Writing : List ℕ → List ℕ → ℕ → ℕ → Type 0
-  Writing out₀ out i p = Running (k .width) (λ j. figureBytes k (getD l j d)) (length l) 0 out₀ out i p
+  abbrev pub WritingFigures : List ℕ → List ℕ → ℕ → ℕ → Type 0
+  WritingFigures out₀ out i p = Running (k .width) (λ j. figureBytes k (getD l j d)) (length l) 0 out₀ out i p
 
-  pub write-ended : {out₀ out : List ℕ} {i p : ℕ} → Writing out₀ out i p → length l ≤ i → out ≡ onto (spread k l) out₀
+  pub write-ended : {out₀ out : List ℕ} {i p : ℕ} → WritingFigures out₀ out i p → length l ≤ i → out ≡ onto (spread k l) out₀
   unfolding spread
   write-ended r h = run-joined (figureBytes k) d l refl r h .bytes

@@ -4,28 +4,21 @@ ghost use mathlib.Core.Path.{_≡_};
 ghost use Prim.Native.Nat.{_+_, _*_, _≤_};
 ghost use lib.ListN.{length, drop};
 ghost use Rattle.buffer.specs.Buffer.{onto};
-ghost use Rattle.figures.specs.Figures.{i16, u16, i32, u32, upTo, within as fits, allUpTo, allWithin, spread, Read};
+ghost use Rattle.figures.specs.Figures.{i16, u16, i32, u32, upTo, within, allUpTo, allWithin, spread, Read};
 use bigendian::SIZE_16;
 use bigendian::SIZE_32;
-
-// Whether the size of a number is at most the limit.
-pub fn within(z: i64, limit: u64) -> bool
-    ensures { λ r. ⌜ r ≡ fits limit z ⌝ }
-{
-    integers::magnitude(z) <= limit
-}
 
 // Reading: as many figures as out has places, from a place of s on. It says whether all are within the limit; where one is not, what out holds is left open.
 
 pub fn read_i16s(s: &[u8], at: usize, limit: u64, out: &mut [i16]) -> bool
     requires { ⌜ at + i16 .width * length (now out) ≤ length (now s) ⌝ }
-    ensures { λ r. ⌜ Read i16 (fits limit) (drop at (now (s .entry))) (now (out .entry)) r (now (out .exit)) ⌝ }
+    ensures { λ r. ⌜ Read i16 (within limit) (drop at (now (s .entry))) (now (out .entry)) r (now (out .exit)) ⌝ }
 {
     let mut i = 0;
     let mut p = at;
     while i < out.len() {
         let x = bigendian::read_i16(s, p);
-        if !within(x as i64, limit) {
+        if limit < integers::magnitude(x as i64) {
             return false;
         }
         out[i] = x;
@@ -55,13 +48,13 @@ pub fn read_u16s(s: &[u8], at: usize, limit: u64, out: &mut [u16]) -> bool
 
 pub fn read_i32s(s: &[u8], at: usize, limit: u64, out: &mut [i32]) -> bool
     requires { ⌜ at + i32 .width * length (now out) ≤ length (now s) ⌝ }
-    ensures { λ r. ⌜ Read i32 (fits limit) (drop at (now (s .entry))) (now (out .entry)) r (now (out .exit)) ⌝ }
+    ensures { λ r. ⌜ Read i32 (within limit) (drop at (now (s .entry))) (now (out .entry)) r (now (out .exit)) ⌝ }
 {
     let mut i = 0;
     let mut p = at;
     while i < out.len() {
         let x = bigendian::read_i32(s, p);
-        if !within(x as i64, limit) {
+        if limit < integers::magnitude(x as i64) {
             return false;
         }
         out[i] = x;
@@ -96,7 +89,7 @@ pub fn all_i16(a: &[i16], limit: u64) -> bool
 {
     let mut i = 0;
     while i < a.len() {
-        if !within(a[i] as i64, limit) {
+        if limit < integers::magnitude(a[i] as i64) {
             return false;
         }
         i += 1;
@@ -122,7 +115,7 @@ pub fn all_i32(a: &[i32], limit: u64) -> bool
 {
     let mut i = 0;
     while i < a.len() {
-        if !within(a[i] as i64, limit) {
+        if limit < integers::magnitude(a[i] as i64) {
             return false;
         }
         i += 1;

@@ -1,17 +1,19 @@
 -- The rows read so far: the law of reading loops, and their figures over the lists' fronts.
 -- Assumes nothing.
-use mathlib.Core.Path.{_≡_, refl, sym, ap, _∙_}
+use mathlib.Core.Path.{_≡_, refl, sym, _∙_}
 use mathlib.Core.List.{List, [], _∷_, _++_}
 use Prim.Native.Nat.{ℕ, _+_, _-_, _≤_, _<_}
 use native.Mathlib.Omega.{arith}
+use native.Mathlib.Nat.{le-trans, le-of-eq}
 use lib.ListN.{length, drop, length-append}
 use borrow.Rule.Slice.PartMut.{putMid}
 use Rattle.outcome.specs.declared.Refusal.{Refusal}
 use Rattle.outcome.specs.declared.Status.{Status}
 use Rattle.outcome.specs.declared.Status.the-variants.{Accepted, Refused}
 use Rattle.outcome.specs.Laws.{stops, first-goes-on, not-both}
+use Rattle.buffer.specs.Buffer.{onto}
 use Rattle.buffer.specs.Laws.{filled, length-onto}
-use Rattle.figures.specs.LoopLaws.{Reading, begun, stopped, turn, ended}
+use Rattle.figures.specs.LoopLaws.{ReadingItems, begun, stopped, turn, ended}
 use Rattle.limits.specs.Limits.{mostTanks}
 use Rattle.rows.specs.Block.{Block, block, Counts, HasRoom, SameLengths, RowsRoom, stacked, over, together}
 use Rattle.casefile.specs.Layout.{rowSize}
@@ -30,26 +32,17 @@ with-row n k m lists r =
     (putMid m (m + 1 - m) (lists .right-sides) (r .right-sides))
     (putMid m (m + 1 - m) (lists .right-tolerances) (r .right-tolerances))
 
+-- one of them: d over its front, and r behind d
+list-more : {X : Type 0} (l₀ d r : List X) (k n : ℕ) → length d ≡ k → length r ≡ n → putMid k (k + n - k) (onto d l₀) r ≡ onto (d ++ r) l₀
+list-more l₀ d r k n c h = filled l₀ _ d r k (k + n - k) refl c (omega arith)
+
 -- figures over the fronts of lists that have room for them, and a row's figures behind them
 module _ {k m : ℕ} (d : Block) (c : Counts k m d) (lists₀ lists : Block) (e : lists ≡ over d lists₀) where
   over-lengths : HasRoom k m lists₀ → SameLengths lists lists₀
-  over-lengths h =
-      rw e
-      (record {
-        la = length-onto (d .coefficients) (lists₀ .coefficients) (omega (arith, c, h));
-        lt = length-onto (d .tolerances) (lists₀ .tolerances) (omega (arith, c, h));
-        lb = length-onto (d .right-sides) (lists₀ .right-sides) (omega (arith, c, h));
-        lf = length-onto (d .right-tolerances) (lists₀ .right-tolerances) (omega (arith, c, h));
-      })
+  over-lengths h = rw e (search (length-onto, le-trans, le-of-eq))
 
   over-more : {n : ℕ} (r : Block) → Counts n 1 r → with-row n k m lists r ≡ over (stacked d r) lists₀
-  over-more {n} r h =
-      rw (
-        filled _ _ (d .coefficients) (r .coefficients) k (k + n - k) (ap (λ l. l .coefficients) e) (c .la) (omega (arith, h)),
-        filled _ _ (d .tolerances) (r .tolerances) k (k + n - k) (ap (λ l. l .tolerances) e) (c .lt) (omega (arith, h)),
-        filled _ _ (d .right-sides) (r .right-sides) m (m + 1 - m) (ap (λ l. l .right-sides) e) (c .lb) (omega (arith, h)),
-        filled _ _ (d .right-tolerances) (r .right-tolerances) m (m + 1 - m) (ap (λ l. l .right-tolerances) e) (c .lf) (omega (arith, h)),
-      )
+  over-more r h = rw e (search list-more)
 
 module _ (s : List ℕ) (at n : ℕ) (lists₀ : Block) where
   pub record ReadingRows (lists : Block) (i from p : ℕ) : Type 0 where
@@ -58,7 +51,7 @@ module _ (s : List ℕ) (at n : ℕ) (lists₀ : Block) where
     sound : Rows n done
     count : length done ≡ i
     is : lists ≡ over (together done) lists₀
-    pub read : Reading (rowSize n) (rowAt n) (rowsStatus n) n s at done i p
+    pub read : ReadingItems (rowSize n) (rowAt n) (rowsStatus n) n s at done i p
 
   pub begun-rows : RowsRoom n lists₀ → ReadingRows lists₀ 0 0 at
   begun-rows r = record { at-row = first-row r; done = []; sound = none; count = refl; is = refl; read = begun }

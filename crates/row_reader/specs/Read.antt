@@ -1,17 +1,11 @@
 -- What the functions on rows give: the first refusal of a part of the input and, where there is none, its figures in the lists.
-use mathlib.Core.Bool.{Bool, true}
 use mathlib.Core.List.{List}
 use Prim.Native.Nat.{ℕ}
 use Rattle.outcome.specs.declared.Status.{Status}
 use Rattle.outcome.specs.declared.Status.the-variants.{Accepted}
 use Rattle.figures.specs.Figures.{Answered}
 use Rattle.rows.specs.Block.{Block, over, together}
-use Rattle.casefile.specs.Case.{rowsFine}
-use Rattle.casefile.specs.Decode.{rowOf, rowAt, rowStatus, rowsStatus, rowsOf}
-
--- a row's figures at the front of v
-abbrev pub FiguresRead : ℕ → List ℕ → Bool → Block → Type 0
-FiguresRead n v r lists = Answered true (rowsFine (rowOf n v)) (rowOf n v) r lists
+use Rattle.casefile.specs.Decode.{rowAt, rowStatus, rowsStatus, rowsOf}
 
 -- one row's field at the front of s
 abbrev pub RowRead : ℕ → List ℕ → Status → Block → Type 0

@@ -1,35 +1,10 @@
 // The reader of the rows of a case.
-ghost use Prim.Native.Nat.{_+_, _≤_};
-ghost use lib.ListN.{length, drop};
+ghost use lib.ListN.{drop};
 ghost use Rattle.rows.specs.Block.{block, RowLists, RowsRoom};
-ghost use Rattle.casefile.specs.Layout.{rowLength};
-ghost use Rattle.row_reader.specs.Read.{FiguresRead, RowRead, RowsRead};
+ghost use Rattle.row_reader.specs.Read.{RowRead, RowsRead};
 use fields::HEADER_SIZE;
 use outcome::Refusal;
 use outcome::Status;
-
-// A row's figures from a place of s on, into the four lists, which have the row's counts; whether all are within their limits.
-fn read_figures(
-    s: &[u8],
-    at: usize,
-    a: &mut [i16],
-    t: &mut [u16],
-    b: &mut [i32],
-    f: &mut [u32],
-) -> bool
-    requires { ⌜ at + rowLength (length (now a)) ≤ length (now s) ⌝ }
-    requires { ⌜ RowLists (length (now a)) (block (now a) (now t) (now b) (now f)) ⌝ }
-    ensures { λ r. ⌜ FiguresRead (length (now (a .entry))) (drop at (now (s .entry))) r (block (now (a .exit)) (now (t .exit)) (now (b .exit)) (now (f .exit))) ⌝ }
-{
-    let row = casefile::row_places(a.len());
-    let tolerances = at + row.tolerances;
-    let right_side = at + row.right_side;
-    let right_tolerance = at + row.right_tolerance;
-    figures::read_i16s(s, at, limits::COEFFICIENT_LIMIT, a)
-        && (figures::read_u16s(s, tolerances, limits::TOLERANCE_LIMIT, t)
-            && (figures::read_i32s(s, right_side, limits::RIGHT_SIDE_LIMIT, b)
-                && figures::read_u32s(s, right_tolerance, limits::RIGHT_TOLERANCE_LIMIT, f)))
-}
 
 // A row's field at a place of s, its figures into the four lists.
 fn read_row(
@@ -49,8 +24,18 @@ fn read_row(
     if let Status::Refused(_) = field {
         return field;
     }
+    let value = at + HEADER_SIZE;
+    let coefficients = figures::read_i16s(s, value, limits::COEFFICIENT_LIMIT, a);
+    let tolerances = figures::read_u16s(s, value + row.tolerances, limits::TOLERANCE_LIMIT, t);
+    let right_side = figures::read_i32s(s, value + row.right_side, limits::RIGHT_SIDE_LIMIT, b);
+    let right_tolerance = figures::read_u32s(
+        s,
+        value + row.right_tolerance,
+        limits::RIGHT_TOLERANCE_LIMIT,
+        f,
+    );
     outcome::check(
-        read_figures(s, at + HEADER_SIZE, a, t, b, f),
+        coefficients & (tolerances & (right_side & right_tolerance)),
         Refusal::OutsideLimits,
     )
 }

@@ -1,18 +1,30 @@
 -- `bigendian::read_u16` meets its contract: a number in two parts of one byte each.
 -- Assumes nothing.
+use Prim.Native.Nat.{_+_}
+use native.Mathlib.Omega.{arith}
 use mathlib.Core.Path.{sym}
-use Rattle.bigendian.specs.NumberLaws.{be-two}
+use denote.Ref.{now}
+use Rattle.bigendian.specs.NumberLaws.{be-one, be-two}
 use borrow.Author.Needs.{needs}
 use Rattle.bigendian.proofs.read_u16.Statement.{statement}
 use Rattle.bigendian.proofs.read_u16.Tie as tie
+
+returns : tie.Need-returns
+returns c =
+    let w = c .before .before in
+    let s = now (w .args .s) in
+    let at = w .args .at in
+    rw (← (be-one s at (omega (arith, w .pre))), ← (be-one s (at + 1) (omega (arith, w .pre)))) (sym (be-two 1 1 s at (w .pre)))
 
 pub read-u16-spec : {M : Type 1} → statement M
 read-u16-spec =
     tie.close
     (tie.spec
-    (λ c κs. search needs)
+    (λ c. search needs)
+    (λ c. omega (arith, c .shared-slice-known .given (c .before .args .at)))
     (λ c. search needs)
     (λ c. search needs)
-    (λ c κs. search needs)
-    (λ c. search needs)
-    (λ c. rw (c .before .byte .ensures .0, c .byte2 .ensures .0) (sym (be-two 1 1 _ _ (c .before .before .before .pre)))))
+    (λ c. omega (arith, c .shared-slice-known2 .given (c .before .before .args .at + 1)))
+    (λ c. omega (arith, c .before .shared-slice-known .given (c .before .before .args .at)))
+    (λ c. omega (arith, c .before .shared-slice-known .given (c .before .before .args .at), c .shared-slice-known2 .given (c .before .before .args .at + 1)))
+    returns)

@@ -19,7 +19,7 @@ use borrow.Author.Needs.{needs}
 use Rattle.case_reader.proofs.read_case.Statement.{statement}
 use Rattle.case_reader.proofs.read_case.Tie as tie
 
--- what is known of the input where the head is accepted, where the rows are, and where the tail has been read
+-- what is known of the input where the head is accepted, and where the rows are
 module _ (h : tie.After-enum-told) where
   abbrev s : List ℕ
   s = now (h .before .before .before .before .args .s)
@@ -46,13 +46,8 @@ module _ (r : tie.After-enum-told2) where
   rows-fine : let x = after-head in rowsStatus (head x .n) (head x .n) (afterHead (s x)) ≡ Accepted
   rows-fine = sym (rows .read-rows .ensures .status) ∙ r .enum-told2 .given .1
 
-module _ (t : tie.After-read-tail) where
-  abbrev after-rows : tie.After-enum-told2
-  after-rows = t .before .before .before
-
-  tail-found : let x = after-head after-rows in
-      TailFound (head x .rounds) (head x .n) (drop (rowsEnd (head x .n)) (s x)) (replicate mostTanks (pos 0)) (t .read-tail .result) (t .read-tail .last .1 .1 .1 .1 .0)
-  tail-found = rw (t .before .before .rows-end .ensures) at (t .read-tail .ensures)
+abbrev after-rows : tie.After-read-tail → tie.After-enum-told2
+after-rows t = t .before .before
 
 returns : tie.Need-returns
 returns c = c .refused .ensures ∙ head-stops _ _ (c .before .before .before .before .read-head .ensures) _ (c .before .before .found .given .1)
@@ -71,7 +66,7 @@ returns-3 c =
     let t = c .before .before .before .before .before in
     let r = after-rows t in
     let h = after-head r in
-    c .refused3 .ensures ∙ tail-stops _ (head h) (head-found h) (head-fine h) (rows-fine r) _ (sym (tail-found t .status) ∙ c .before .before .tail .given .1)
+    c .refused3 .ensures ∙ tail-stops _ (head h) (head-found h) (head-fine h) (rows-fine r) _ (sym (t .read-tail .ensures .status) ∙ c .before .before .tail .given .1)
 
 returns-4 : tie.Need-returns-4
 returns-4 c =
@@ -79,8 +74,8 @@ returns-4 c =
     let r = after-rows t in
     let h = after-head r in
     let accepted = c .enum-told3 .given .1 in
-    whole _ (head h) (head-found h) (head-fine h) (rows-fine r) (sym (tail-found t .status) ∙ accepted) _ _
-    (rows r .read-rows .ensures .made (r .enum-told2 .given .1)) (tail-found t .made accepted)
+    whole _ (head h) (head-found h) (head-fine h) (rows-fine r) (sym (t .read-tail .ensures .status) ∙ accepted) _ _
+    (rows r .read-rows .ensures .made (r .enum-told2 .given .1)) (t .read-tail .ensures .made accepted)
 
 pub read-case-spec : {M : Type 1} → statement M
 read-case-spec =
@@ -100,9 +95,8 @@ read-case-spec =
     (λ c κs. search needs)
     returns-2
     (λ c. search needs)
-    (λ c κs. few (after-head c))
     (λ c. search needs)
-    (λ c κs. omega (arith, few (after-head (c .before .before))))
+    (λ c κs. omega (arith, few (after-head (c .before))))
     (λ c. search needs)
     (λ c κs. search needs)
     returns-3

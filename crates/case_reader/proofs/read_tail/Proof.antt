@@ -1,49 +1,73 @@
--- `case_reader::read_tail` meets its contract: the trial's refusal, then the end's.
+-- `case_reader::read_tail` meets its contract: the trial's refusal, then the end field's, then whether the input ends with it.
 -- Assumes nothing.
 use native.Mathlib.Omega.{arith}
-use Prim.Native.Nat.{_^_}
+use Prim.Native.Nat.{_+_, _≤_}
 use mathlib.Core.Path.{_≡_, sym, _∙_}
-use lib.ListN.{drop}
+use lib.ListN.{length, drop, length-drop}
 use lib.Seq.{drop-drop}
 use denote.Ref.{now}
 use Rattle.outcome.specs.declared.Status.the-variants.{Accepted}
-use Rattle.outcome.specs.Laws.{first-goes-on}
-use Rattle.casefile.specs.Layout.{trialSize}
-use Rattle.casefile.specs.Decode.{trialStatus, tailStatus}
+use Rattle.outcome.specs.Laws.{stops, first-goes-on}
+use Rattle.fields.specs.Field.{endTag, endLength, endSize, fieldStatus}
+use Rattle.fields.specs.FieldLaws.{field-room-at}
+use Rattle.casefile.specs.Layout.{rowsEnd, trialSize, endAt}
+use Rattle.casefile.specs.Decode.{trialStatus, endStatus, tailStatus}
 use Rattle.casefile.specs.AnswerLaws.{answer-stops}
-use Rattle.casefile.specs.TailLaws.{trial-place}
 use borrow.Author.Needs.{needs}
 use Rattle.case_reader.proofs.read_tail.Statement.{statement}
 use Rattle.case_reader.proofs.read_tail.Tie as tie
 
--- the trial not refused, and what follows it
-module _ (k : tie.After-enum-told2) where
+-- the trial not refused, and the end field checked
+module _ (k : tie.After-check-field) where
+  abbrev placed : tie.After-tail-places
+  placed = k .before
+
+  abbrev told : tie.After-enum-told2
+  told = placed .before
+
   abbrev trial : tie.After-read-trial
-  trial = k .before .before .before
+  trial = told .before .before .before
 
   abbrev start : tie.Start
   start = trial .before .before .before
 
-  trial-fine : let g = start .args in trialStatus (g .rounds) (g .n) (drop (g .at) (now (g .s))) ≡ Accepted
-  trial-fine = sym (trial .read-trial .ensures .status) ∙ k .enum-told2 .given .1
+  trial-fine : let g = start .args in trialStatus (g .rounds) (g .n) (drop (rowsEnd (g .n)) (now (g .s))) ≡ Accepted
+  trial-fine = sym (trial .read-trial .ensures .status) ∙ told .enum-told2 .given .1
+
+  field : let g = start .args in k .check-field .result ≡ fieldStatus endTag endLength (drop (endAt (g .rounds) (g .n)) (now (g .s)))
+  field = rw (placed .tail-places .ensures .end) at (k .check-field .ensures)
+
+  -- what is left to be found is the end's
+  tail-is : let g = start .args in tailStatus (g .rounds) (g .n) (drop (rowsEnd (g .n)) (now (g .s))) ≡ endStatus (drop (endAt (g .rounds) (g .n)) (now (g .s)))
+  unfolding tailStatus
+  tail-is = let g = start .args in
+      rw (← (drop-drop (trialSize (g .rounds) (g .n)) (rowsEnd (g .n)) (now (g .s)))) (sym (first-goes-on _ _ trial-fine))
 
 returns : tie.Need-returns
 unfolding tailStatus
 returns c = answer-stops (c .before .before .before .read-trial .ensures .status) _ (c .enum-told .given .1)
 
-add-read-end : tie.Need-add-read-end
-add-read-end c =
-    let k = c .before in
-    let g = start k .args in
-    omega (arith, trial-place (g .rounds) (g .n) (now (g .s)) (g .at) (2 ^ 64) (omega (arith, start k .fits)) (omega (arith, start k .good)) (trial-fine k), c .trial-size .ensures)
-
 returns-2 : tie.Need-returns-2
-unfolding tailStatus
-returns-2 c =
-    let k = c .before .before in
+unfolding endStatus
+returns-2 c = let k = c .before .before in rw (tail-is k) (answer-stops (field k) _ (c .enum-told3 .given .1))
+
+sub-check : tie.Need-sub-check
+sub-check c =
+    let k = c .before .before .before in
     let g = start k .args in
-    let e = rw (c .before .trial-size .ensures, ← (drop-drop (trialSize (g .rounds) (g .n)) (g .at) (now (g .s)))) at (c .read-end .ensures) in
-    record { status = e ∙ first-goes-on _ _ (trial-fine k); made = λ _. trial k .read-trial .ensures .made (k .enum-told2 .given .1) }
+    omega (arith, placed k .tail-places .ensures, field-room-at endTag endLength (now (g .s)) (endAt (g .rounds) (g .n)) (field k) (c .before .enum-told4 .given .1))
+
+returns-3 : tie.Need-returns-3
+unfolding endStatus
+returns-3 c =
+    let k = c .before .before .before .before in
+    let g = start k .args in
+    let e = rw (placed k .tail-places .ensures .end) at (c .check .ensures) in
+    rw (tail-is k)
+    (record {
+      status = e ∙ rw (length-drop (endAt (g .rounds) (g .n)) (now (g .s))) (first-goes-on _ _ (sym (field k) ∙ c .before .before .enum-told4 .given .1));
+      made = λ _. trial k .read-trial .ensures .made (told k .enum-told2 .given .1);
+    })
 
 pub read-tail-spec : {M : Type 1} → statement M
 read-tail-spec =
@@ -55,7 +79,12 @@ read-tail-spec =
     returns
     (λ c. search needs)
     (λ c κs. search needs)
-    add-read-end
     (λ c κs. search needs)
     (λ c. search needs)
-    returns-2)
+    (λ c. search needs)
+    returns-2
+    (λ c. search needs)
+    sub-check
+    (λ c κs. search needs)
+    (λ c. search needs)
+    returns-3)

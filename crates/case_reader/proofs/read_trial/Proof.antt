@@ -1,18 +1,20 @@
 -- `case_reader::read_trial` meets its contract, by whether the case brings a trial: the field's refusal, then its figures.
 -- Assumes nothing.
 use native.Mathlib.Omega.{arith}
-use mathlib.Core.Path.{_≡_, refl, sym}
+use Prim.Native.Nat.{ℕ, _+_}
+use mathlib.Core.Path.{_≡_, refl, sym, ap, _∙_}
 use lib.ListN.{length, take, drop}
 use lib.Seq.{length-take-le}
 use denote.Ref.{now}
 use Rattle.outcome.specs.declared.Refusal.the-variants.{OutsideLimits}
 use Rattle.figures.specs.ItemLaws.{length-items}
-use Rattle.fields.specs.Field.{valueOf}
+use Rattle.fields.specs.Field.{headerSize, valueOf}
 use Rattle.fields.specs.FieldLaws.{value-at}
+use Rattle.casefile.specs.Layout.{rowsEnd, trialKind}
 use Rattle.casefile.specs.Decode.{trialDue, trialStatus, trialOf}
 use Rattle.casefile.specs.TailLaws.{not-brought}
 use Rattle.casefile.specs.DueLaws.{Checked, checked}
-use Rattle.casefile.specs.AnswerLaws.{answer-stops, answer-goes-on}
+use Rattle.casefile.specs.AnswerLaws.{answer-stops, answer-goes-on, run-at}
 use borrow.Author.Needs.{needs}
 use Rattle.case_reader.proofs.read_trial.Statement.{statement}
 use Rattle.case_reader.proofs.read_trial.Tie as tie
@@ -23,11 +25,14 @@ returns c = let k = c .before .before .args .rounds in rw (not-brought k _ _ (c 
 
 -- the field, checked, and the part that is lent
 module _ (k : tie.After-check-field) where
-  abbrev start : tie.Start
-  start = k .before .before .before .before
+  abbrev placed : tie.After-tail-places
+  placed = k .before
 
-  field : Checked (trialDue (start .args .n)) (now (start .args .s)) (start .args .at) (k .check-field .result)
-  field = checked (trialDue (start .args .n)) (now (start .args .s)) (start .args .at) _ (k .before .trial-length .ensures) (k .check-field .ensures)
+  abbrev start : tie.Start
+  start = placed .before .before .before
+
+  field : Checked (trialDue (start .args .n)) (now (start .args .s)) (rowsEnd (start .args .n)) (k .check-field .result)
+  field = let p = placed .tail-places .ensures in checked (trialDue (start .args .n)) (now (start .args .s)) (rowsEnd (start .args .n)) (p .trial) (p .len) (k .check-field .ensures)
 
   taken : length (take (start .args .n) (now (start .args .y))) ≡ start .args .n
   taken = length-take-le (start .args .n) (now (start .args .y)) (start .pre .room)
@@ -37,23 +42,26 @@ unfolding trialStatus
 returns-2 c = rw (c .before .before .before .before .if1 .left) (answer-stops (field (c .before .before) .is) _ (c .enum-told .given .1))
 
 add-read-i32s : tie.Need-add-read-i32s
-add-read-i32s c = let k = c .before .before in
-    omega (arith, start k .good, field k .room (c .enum-told2 .given .1))
+add-read-i32s c =
+    let k = c .before .before .before in
+    omega (arith, start k .good, placed k .tail-places .ensures, field k .room (c .before .enum-told2 .given .1))
 
 read-i32s-requires : tie.Need-read-i32s-requires
-read-i32s-requires c κs = let k = c .before .before .before in
-    omega (arith, taken k, field k .room (c .before .enum-told2 .given .1))
+read-i32s-requires c κs =
+    let k = c .before .before .before .before in
+    omega (arith, taken k, placed k .tail-places .ensures, field k .room (c .before .before .enum-told2 .given .1))
 
 returns-3 : tie.Need-returns-3
 unfolding trialStatus trialOf
 returns-3 c =
     let w = c .before .before in
-    let k = w .before .before .before .before in
+    let k = w .before .before .before .before .before in
     let g = start k .args in
-    let q = rw (taken k, value-at (now (g .s)) (g .at)) at (w .read-i32s .ensures) in
+    let there = ap (λ (p : ℕ). drop (p + headerSize) (now (g .s))) (placed k .tail-places .ensures .trial) ∙ value-at (now (g .s)) (rowsEnd (g .n)) in
+    let q = run-at trialKind _ there (taken k) (w .read-i32s .ensures) in
     rw (k .before .before .if1 .left)
-    (answer-goes-on (field k .is) OutsideLimits (w .before .before .enum-told2 .given .1)
-    (record { status = q .status; made = λ e. rw (q .made e, length-items _ _ (g .n) (valueOf (drop (g .at) (now (g .s))))) }) (c .check .ensures))
+    (answer-goes-on (field k .is) OutsideLimits (w .before .before .before .enum-told2 .given .1)
+    (record { status = q .status; made = λ e. rw (q .made e, length-items _ _ (g .n) (valueOf (drop (rowsEnd (g .n)) (now (g .s))))) }) (c .check .ensures))
 
 pub read-trial-spec : {M : Type 1} → statement M
 read-trial-spec =
@@ -67,7 +75,7 @@ read-trial-spec =
     (λ c. search needs)
     add-read-i32s
     (λ c. search needs)
-    (λ c. sym (taken (c .before .before .before)))
+    (λ c. sym (taken (c .before .before .before .before)))
     read-i32s-requires
     (λ c κs. search needs)
     (λ c. search needs)

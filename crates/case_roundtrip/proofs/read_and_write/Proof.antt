@@ -48,7 +48,7 @@ returns-2 c =
     let t = c .before .before .before .before .before .before .before .before .before .before .before .before .before .before in
     let d = t .before .before in
     c .before .before .write-case .ensures
-    ∙ again (file d) (case d) (whole d) _ (t .trial-count .ensures)
+    ∙ again (file d) (case d) (whole d) _ (t .tail-places .ensures .count)
     (bytes-from (file d) (λ i. read d .before .before .shared-slice-known .given i .fits)) (now (start (read d) .args .out))
 
 pub read-and-write-spec : {M : Type 1} → statement M
@@ -60,7 +60,7 @@ read-and-write-spec =
     returns
     (λ c. search needs)
     mul-square
-    (λ c κs. search needs)
+    (λ c κs. sizes (c .before) .rows .small)
     (λ c. omega (arith, sizes (c .before .before .before .before .before .before .before)))
     (λ c. sym (length-take-le _ _ (omega (arith, sizes (c .before .before .before .before .before .before .before .before)))))
     (λ c. omega (arith, sizes (c .before .before .before .before .before .before .before .before)))
@@ -69,8 +69,8 @@ read-and-write-spec =
     (λ c. sym (length-take-le _ _ (omega (arith, sizes (c .before .before .before .before .before .before .before .before .before .before)))))
     (λ c. omega (arith, sizes (c .before .before .before .before .before .before .before .before .before .before)))
     (λ c. sym (length-take-le _ _ (omega (arith, sizes (c .before .before .before .before .before .before .before .before .before .before .before)))))
-    (λ c. omega (arith, sizes (c .before .before .before .before .before .before .before .before .before .before .before)))
-    (λ c. sym (length-take-le _ _ (omega (arith, sizes (c .before .before .before .before .before .before .before .before .before .before .before .before)))))
+    (λ c. let t = c .before .before .before .before .before .before .before .before .before in omega (arith, sizes (t .before .before), t .tail-places .ensures))
+    (λ c. let t = c .before .before .before .before .before .before .before .before .before .before in sym (length-take-le _ _ (omega (arith, sizes (t .before .before), t .tail-places .ensures))))
     (λ c κs. search needs)
     (λ c. search needs)
     returns-2)

@@ -1,13 +1,13 @@
 -- `case_writer::check_case` meets its contract: head, counts, figures, in this order.
 -- Assumes nothing.
-use mathlib.Core.Path.{_≡_, sym, ap, _∙_}
-use mathlib.Core.Bool.{Bool, true}
+use native.Mathlib.Omega.{arith}
+use mathlib.Core.Path.{_≡_, sym, _∙_}
+use mathlib.Core.Bool.{true, false}
 use denote.Ref.{now}
 use borrow.Author.Tests.{not-true, not-false}
-use Rattle.outcome.specs.declared.Refusal.the-variants.{OutsideLimits}
-use Rattle.outcome.specs.Outcome.{check}
-use Rattle.casefile.specs.Case.{Case, given, headFine, counted, figuresFine, caseStatus}
+use Rattle.casefile.specs.Case.{Case, given, HeadSmall, headFine, counted, rowsFine, figuresFine, caseStatus}
 use Rattle.casefile.specs.CaseLaws.{head-small}
+use Rattle.casefile.specs.RowsLaws.{square-fits}
 use borrow.Author.Needs.{needs}
 use Rattle.case_writer.proofs.check_case.Statement.{statement}
 use Rattle.case_writer.proofs.check_case.Tie as tie
@@ -18,43 +18,40 @@ case-of s =
     let a = s .args in
     given (a .n) (a .exponent) (a .rounds) (now (a .a)) (now (a .t)) (now (a .b)) (now (a .f)) (now (a .y))
 
--- each test is the definition's, of that case
-module _ (c : tie.After-head-fine) where
+-- n, e and K within their limits
+module _ (c : tie.Else1) where
   abbrev start : tie.Start
-  start = c .before .before .before
+  start = c .before .before .before .before
 
-  head-is : c .head-fine .result ≡ headFine (start .args .n) (start .args .exponent) (start .args .rounds)
-  head-is = c .head-fine .ensures
+  head-passed : headFine (start .args .n) (start .args .exponent) (start .args .rounds) ≡ true
+  head-passed = sym (c .before .head-fine .ensures) ∙ not-false _ (c .if1 .left)
 
-module _ (c : tie.After-counts-fine) where
-  abbrev head : tie.After-head-fine
-  head = c .before .before
-
-  head-passed : headFine (start head .args .n) (start head .args .exponent) (start head .args .rounds) ≡ true
-  head-passed = sym (head-is head) ∙ not-false _ (c .before .if1 .left)
-
-  counts-are : c .counts-fine .result ≡ counted (case-of (start head))
-  unfolding counted
-  counts-are = c .counts-fine .ensures
+  limits : HeadSmall (start .args .n) (start .args .exponent) (start .args .rounds)
+  limits = head-small _ _ _ head-passed
 
 returns : tie.Need-returns
 unfolding caseStatus
-returns c = rw (sym (head-is (c .before)) ∙ not-true _ (c .if1 .taken))
-
-counts-fine-requires : tie.Need-counts-fine-requires
-counts-fine-requires c κs =
-    let a = start (c .before) .args in
-    head-small (a .n) (a .exponent) (a .rounds) (sym (head-is (c .before)) ∙ not-false _ (c .if1 .left)) .small
+returns c = rw (sym (c .before .head-fine .ensures) ∙ not-true _ (c .if1 .taken))
 
 returns-2 : tie.Need-returns-2
-unfolding caseStatus
-returns-2 c = rw (head-passed (c .before), sym (counts-are (c .before)) ∙ not-true _ (c .if2 .taken))
+unfolding caseStatus counted
+returns-2 c =
+    let p = c .before .before in
+    let e : counted (case-of (start (p .before))) ≡ false = rw (← (p .tail-places .ensures .count)) (not-true _ (c .if2 .taken)) in
+    rw (head-passed (p .before), e)
 
 returns-3 : tie.Need-returns-3
-unfolding caseStatus figuresFine
+unfolding caseStatus counted figuresFine rowsFine
 returns-3 c =
-    let k = c .before .before .before in
-    rw (head-passed k, sym (counts-are k) ∙ not-false _ (c .before .before .if2 .left)) (c .check .ensures ∙ ap (λ (b : Bool). check b OutsideLimits) (c .before .figures-fine .ensures))
+    let w = c .before in
+    let f = w .before in
+    let b = f .before in
+    let t = b .before in
+    let a = t .before in
+    let p = a .before .before .before in
+    let e : counted (case-of (start (p .before))) ≡ true = rw (← (p .tail-places .ensures .count)) (not-false _ (a .before .if2 .left)) in
+    rw (head-passed (p .before), e, ← (a .all-i16 .ensures), ← (t .all-u16 .ensures), ← (b .all-i32 .ensures), ← (f .all-u32 .ensures), ← (w .all-i322 .ensures))
+    (c .check .ensures)
 
 pub check-case-spec : {M : Type 1} → statement M
 check-case-spec =
@@ -62,8 +59,14 @@ check-case-spec =
     (tie.spec
     (λ c κs. search needs)
     returns
-    counts-fine-requires
+    (λ c κs. limits c .small)
+    (λ c. omega (arith, square-fits _ (limits (c .before) .small)))
+    (λ c. omega (arith, square-fits _ (limits (c .before) .small)))
     returns-2
+    (λ c κs. search needs)
+    (λ c κs. search needs)
+    (λ c κs. search needs)
+    (λ c κs. search needs)
     (λ c κs. search needs)
     (λ c κs. search needs)
     returns-3)

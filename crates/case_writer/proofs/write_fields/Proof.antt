@@ -1,11 +1,18 @@
 -- `case_writer::write_fields` meets its contract: head, rows, trial and end are the encoding, which fits the buffer.
 -- Assumes nothing.
-use Prim.Native.Nat.{_+_, _≤_}
+use Prim.Native.Nat.{ℕ, _+_, _≤_}
 use native.Mathlib.Omega.{arith}
+use mathlib.Core.Path.{_≡_}
+use mathlib.Core.List.{List}
+use lib.ListN.{length, length-set}
 use denote.Ref.{now}
-use Rattle.fields.specs.Field.{endSize}
-use Rattle.casefile.specs.Case.{Case, given}
-use Rattle.casefile.specs.Layout.{rowsEnd, trialSize, longestCase}
+use lib.Seq.{sets}
+use Rattle.buffer.specs.Laws.{put}
+use Rattle.buffer.specs.WroteLaws.{wrote-same}
+use Rattle.fields.specs.Field.{headerSize, endSize}
+use Rattle.fields.specs.FieldLaws.{field-stored}
+use Rattle.casefile.specs.Case.{Case, given, HeadSmall}
+use Rattle.casefile.specs.Layout.{headTag, headValue, rowsAt, endAt, TailPlaced, longestCase}
 use Rattle.casefile.specs.SoundLaws.{counts}
 use Rattle.casefile.specs.CaseLaws.{Good, good, length-encode, longest}
 use Rattle.case_writer.proofs.Whole.{fields-written}
@@ -22,72 +29,92 @@ module _ (s : tie.Start) where
   fine : Good case
   fine = good case (s .pre .1)
 
-  size : rowsEnd (s .args .n) + (trialSize (s .args .rounds) (s .args .n) + endSize) ≤ longestCase
+  size : endAt (s .args .rounds) (s .args .n) + endSize ≤ longestCase
   size = omega (arith, length-encode case fine, longest case (s .pre .1))
+
+-- the head's figures fit their bytes, and the buffer has room behind its header
+module _ (h : tie.After-write-header) where
+  abbrev start : tie.Start
+  start = h .before .before .before .before .before
+
+  abbrev head-stored : List ℕ
+  head-stored = let g = start .args in sets (h .write-header .last .0) headerSize (headValue (g .n) (g .exponent) (g .rounds))
+
+  head-room : let g = start .args in
+      HeadSmall (g .n) (g .exponent) (g .rounds)
+      × (longestCase ≤ length (now (g .out)))
+      × (length (h .write-header .last .0) ≡ length (now (g .out)))
+      × (length head-stored ≡ length (now (g .out)))
+  head-room = (fine start .limits, start .pre .0, h .write-header .kept .0, simp length-set (omega (arith, h .write-header .kept)))
 
 write-rows-requires : tie.Need-write-rows-requires
 write-rows-requires c κs =
-    let s = c .before .before .before .before .before .before .before .before in
-    omega (arith, fine s .limits .small, counts (fine s .rows), size s)
+    let s = start (c .before .before .before) in
+    omega (arith, counts (fine s .rows), size s, head-room (c .before .before .before))
 
--- where the calls before the place of the trial stand
-module _ (r : tie.After-rows-end) where
+-- the calls before the trial's
+module _ (p : tie.After-tail-places) where
   abbrev rows : tie.After-write-rows
-  rows = r .before .before .before
+  rows = p .before .before .before
 
-  abbrev head : tie.After-write-head
-  head = rows .before .before .before .before
+  abbrev header : tie.After-write-header
+  header = rows .before .before .before .before
 
-  abbrev start : tie.Start
-  start = head .before .before .before .before .before
+  abbrev begun : tie.Start
+  begun = start header
+
+  -- the places, and the buffer as long as it was
+  placed : let g = begun .args in
+      TailPlaced (g .rounds) (g .n) (p .tail-places .result)
+      × (endAt (g .rounds) (g .n) + endSize ≤ longestCase)
+      × (longestCase ≤ length (now (g .out)))
+      × (length (put (head-stored header) rowsAt (rows .write-rows .last .0)) ≡ length (now (g .out)))
+  placed = (p .tail-places .ensures, size begun, begun .pre .0, omega (arith, head-room header, rows .write-rows .kept))
 
 write-trial-requires : tie.Need-write-trial-requires
-write-trial-requires c κs =
-    let r = c .before in
-    omega (arith, fine (start r) .limits .small, fine (start r) .trial .count, size (start r))
-
--- and before the place of the end
-module _ (z : tie.After-trial-size) where
-  abbrev trial : tie.After-write-trial
-  trial = z .before .before .before
-
-  abbrev tail : tie.After-rows-end
-  tail = trial .before .before
-
-write-end-requires : tie.Need-write-end-requires
-write-end-requires c κs =
-    let r = tail (c .before) in
-    omega (arith, size (start r), start r .pre .0, head r .write-head .kept)
+write-trial-requires c κs = let g = fine (begun (c .before)) in omega (arith, placed (c .before), g .limits .small, g .trial .count)
 
 returns : tie.Need-returns
 returns c =
     let e = c .before .before in
-    let z = e .before .before in
-    let r = tail z in
-    let s = start r in
-    fields-written (case s) (fine s) _ _ (now (s .args .out)) _ _ _ _ (r .rows-end .ensures) (omega (arith, z .trial-size .ensures))
-    (head r .write-head .ensures) (rows r .write-rows .ensures) (trial z .write-trial .ensures) (e .write-end .ensures)
+    let w = e .before .before .before .before in
+    let p = w .before .before in
+    let s = begun p in
+    let h = header p .write-header in
+    fields-written (case s) (fine s) _ _ (now (s .args .out)) _ _ _ _ (p .tail-places .ensures .trial) (p .tail-places .ensures .end)
+    (field-stored headTag (headValue (s .args .n) (s .args .exponent) (s .args .rounds)) (now (s .args .out)) (h .last .0) (omega (arith, head-room (header p))) (h .ensures))
+    (rows p .write-rows .ensures) (w .write-trial .ensures) (e .write-end .ensures)
+
+same-length : tie.Need-same-length
+same-length c =
+    let s = begun (c .before .before .before .before .before .before .before .before) in
+    wrote-same (record { room = omega (arith, longest (case s) (s .pre .1), s .pre .0) }) (returns c)
 
 pub write-fields-spec : {M : Type 1} → statement M
 write-fields-spec =
     tie.close
     (tie.spec
-    (λ c κs. let s = c .before .before .before .before in omega (arith, fine s, s .pre .0))
     (λ c. search needs)
+    (λ c κs. search needs)
+    (λ c. omega (arith, head-room (c .before .before)))
     (λ c. search needs)
+    (λ c. omega (arith, head-room (c .before .before)))
+    (λ c. simp length-set (omega (arith, head-room (c .before .before))))
+    (λ c. omega (arith, head-room (c .before .before)))
+    (λ c. simp length-set (omega (arith, head-room (c .before .before))))
+    (λ c. omega (arith, head-room (c .before .before)))
+    (λ c. omega (arith, head-room (c .before .before)))
     (λ c. search needs)
     write-rows-requires
-    (λ c κs. fine (c .before .before .before .before .before .before .before .before .before .before .before) .limits .small)
-    (λ r. omega (arith, size (start r)))
-    (λ r. omega (arith, size (start r)))
+    (λ c κs. fine (start (c .before .before .before .before .before .before)) .limits .small)
+    (λ p. omega (arith, placed p))
+    (λ p. omega (arith, placed p))
     (λ c. search needs)
     write-trial-requires
-    (λ c κs. fine (c .before .before .before .before .before .before .before .before .before .before .before .before .before .before .before .before) .limits .small)
-    (λ z. omega (arith, size (start (tail z))))
-    (λ z. omega (arith, size (start (tail z))))
-    (λ z. omega (arith, size (start (tail z))))
+    (λ c. let w = c .before .before in omega (arith, placed (w .before .before), w .write-trial .kept))
+    (λ c. let w = c .before .before in omega (arith, placed (w .before .before), w .write-trial .kept))
     (λ c. search needs)
-    write-end-requires
-    (λ c. omega (arith, size (start (tail (c .before .before .before .before)))))
-    (λ c. search needs)
+    (λ c κs. let w = c .before .before .before in omega (arith, placed (w .before .before), w .write-trial .kept))
+    (λ c. omega (arith, placed (c .before .before .before .before .before .before .before .before)))
+    same-length
     returns)

@@ -12,20 +12,24 @@ use Rattle.case_writer.proofs.write_trial.Statement.{statement}
 use Rattle.case_writer.proofs.write_trial.Tie as tie
 
 -- with a trial
-module _ (k : tie.After-trial-length) where
+module _ (k : tie.After-tail-places) where
   abbrev start : tie.Start
   start = k .before .before .before
 
   brought : TrialRoom (now (start .args .out)) 0 (start .args .n) (now (start .args .y))
   brought = subst (λ (r : ℕ). TrialRoom (now (start .args .out)) r (start .args .n) (now (start .args .y))) (k .before .if1 .taken) (start .pre)
 
+-- and where its header has been written
+abbrev placed : tie.After-write-header → tie.After-tail-places
+placed h = h .before .before .before
+
 returns : tie.Need-returns
 returns c =
     let w = c .before .before in
     let h = w .before .before .before .before in
-    let k = h .before .before in
+    let k = placed h in
     let a = start k .args in
-    rw (k .before .if1 .taken) (trial-written (now (a .out)) _ (now (a .y)) _ _ (omega (arith, brought k, k .trial-length .ensures)) (h .write-header .ensures) (w .write-i32s .ensures))
+    rw (k .before .if1 .taken) (trial-written (now (a .out)) _ (now (a .y)) _ _ (omega (arith, brought k, k .tail-places .ensures)) (h .write-header .ensures) (w .write-i32s .ensures))
 
 returns-2 : tie.Need-returns-2
 returns-2 c = rw (not-brought (c .before .before .args .rounds) _ _ (c .if1 .left))
@@ -36,11 +40,11 @@ write-trial-spec =
     (tie.spec
     (λ c κs. search needs)
     (λ c. search needs)
-    (λ c κs. omega (arith, brought (c .before)))
-    (λ c. omega (arith, brought (c .before .before .before .before)))
-    (λ c. omega (arith, brought (c .before .before .before .before)))
+    (λ c κs. omega (arith, brought (c .before .before)))
+    (λ c. omega (arith, brought (placed (c .before .before))))
+    (λ c. omega (arith, brought (placed (c .before .before))))
     (λ c. search needs)
-    (λ c κs. omega (arith, brought (c .before .before .before .before .before)))
+    (λ c κs. omega (arith, brought (placed (c .before .before .before))))
     (λ c. search needs)
     returns
     returns-2)

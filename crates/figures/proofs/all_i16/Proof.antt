@@ -2,7 +2,7 @@
 -- Assumes nothing.
 use Prim.Native.Nat.{_-_}
 use native.Mathlib.Omega.{arith}
-use borrow.Author.Tests.{not-true, not-false}
+use borrow.Author.Tests.{le-leb, lt-leb}
 use lib.IntN.{ℤ, pos}
 use denote.Ref.{now}
 use lib.ListN.{length, getD}
@@ -20,14 +20,14 @@ abbrev μ-loop : tie.MeasureT-loop
 μ-loop a limit i₀ i = length a - i
 
 -- the figure that is tested
-abbrev figure : tie.After-within-arg Inv-loop μ-loop → ℤ
+abbrev figure : tie.After-magnitude-arg Inv-loop μ-loop → ℤ
 figure c = getD (now (c .before .before .before .args .a)) (c .before .before .loop .i) (pos 0)
 
 returns : tie.Need-returns Inv-loop μ-loop
-returns c = test-stopped (pos 0) (c .before .before .before .before .loop .inv) (c .before .before .before .loop-test .taken) (tested w16 tt (figure (c .before .before)) (c .before .before .within-arg .given) _ (c .before .within .ensures) (not-true _ (c .if1 .taken)))
+returns c = test-stopped (pos 0) (c .before .before .before .before .loop .inv) (c .before .before .before .loop-test .taken) (tested w16 tt (figure (c .before .before)) (c .before .before .magnitude-arg .given) _ (c .before .magnitude .ensures) (lt-leb _ _ (c .if1 .taken)))
 
 loop-again : tie.Need-loop-again Inv-loop μ-loop
-loop-again c = test-turn (pos 0) (c .before .before .before .before .loop .inv) (c .before .before .before .loop-test .taken) (tested w16 tt (figure (c .before .before)) (c .before .before .within-arg .given) _ (c .before .within .ensures) (not-false _ (c .if1 .left)))
+loop-again c = test-turn (pos 0) (c .before .before .before .before .loop .inv) (c .before .before .before .loop-test .taken) (tested w16 tt (figure (c .before .before)) (c .before .before .magnitude-arg .given) _ (c .before .magnitude .ensures) (le-leb _ _ (c .if1 .left)))
 
 pub all-i16-spec : {M : Type 1} → statement M
 all-i16-spec =
@@ -38,7 +38,7 @@ all-i16-spec =
     (λ c. test-begun)
     (λ c. omega arith)
     (λ c. omega arith)
-    (λ c. wide-fits w16 tt (figure c) (record { sfits = c .within-arg .given }))
+    (λ c. wide-fits w16 tt (figure c) (record { sfits = c .magnitude-arg .given }))
     (λ c κs. tt)
     returns
     (λ c. omega arith)

@@ -2,7 +2,7 @@
 -- Assumes nothing.
 use Prim.Native.Nat.{_-_}
 use native.Mathlib.Omega.{arith}
-use borrow.Author.Tests.{not-true, not-false}
+use borrow.Author.Tests.{le-leb, lt-leb}
 use lib.ListN.{length, length-set}
 use mir.Syntax.{w16}
 use mir.Facts.{toZ-ofZ}
@@ -19,7 +19,7 @@ abbrev μ-loop : tie.MeasureT-loop
 μ-loop s at limit out₀ i₀ p₀ out i p = length out - i
 
 returns : tie.Need-returns Inv-loop μ-loop
-returns c = read-stopped (c .before .before .before .before .loop .inv) (c .before .before .before .loop-test .taken) (c .before .before .read-i16 .ensures) (tested w16 tt (c .before .before .read-i16 .result) (c .before .before .read-i16 .ok) _ (c .before .within .ensures) (not-true _ (c .if1 .taken)))
+returns c = read-stopped (c .before .before .before .before .loop .inv) (c .before .before .before .loop-test .taken) (c .before .before .read-i16 .ensures) (tested w16 tt (c .before .before .read-i16 .result) (c .before .before .read-i16 .ok) _ (c .before .magnitude .ensures) (lt-leb _ _ (c .if1 .taken)))
 
 add-p : tie.Need-add-p Inv-loop μ-loop
 add-p c = let n = read-next (c .before .before .before .before .loop .inv) (c .before .before .before .loop-test .taken) in
@@ -27,7 +27,7 @@ add-p c = let n = read-next (c .before .before .before .before .loop .inv) (c .b
 
 loop-again : tie.Need-loop-again Inv-loop μ-loop
 loop-again c = rw (toZ-ofZ {w = w16} (record { sfits = c .before .before .read-i16 .ok }))
-    (read-turn (c .before .before .before .before .loop .inv) (c .before .before .before .loop-test .taken) (c .before .before .read-i16 .ensures) (tested w16 tt (c .before .before .read-i16 .result) (c .before .before .read-i16 .ok) _ (c .before .within .ensures) (not-false _ (c .if1 .left))))
+    (read-turn (c .before .before .before .before .loop .inv) (c .before .before .before .loop-test .taken) (c .before .before .read-i16 .ensures) (tested w16 tt (c .before .before .read-i16 .result) (c .before .before .read-i16 .ok) _ (c .before .magnitude .ensures) (le-leb _ _ (c .if1 .left))))
 
 pub read-i16s-spec : {M : Type 1} → statement M
 read-i16s-spec =

@@ -9,12 +9,12 @@ use mir.Facts.{toZ-ofZ}
 use Rattle.bigendian.specs.NumberLaws.{length-bytes}
 use Rattle.buffer.specs.RunLaws.{run-begun, run-next, run-turn-lent}
 use Rattle.figures.specs.Figures.{i16}
-use Rattle.figures.specs.LoopLaws.{Writing, write-ended}
+use Rattle.figures.specs.LoopLaws.{WritingFigures, write-ended}
 use Rattle.figures.proofs.write_i16s.Statement.{statement}
 use Rattle.figures.proofs.write_i16s.Tie as tie
 
 abbrev Inv-loop : tie.InvT-loop
-Inv-loop out₀ a i₀ p₀ out i p = Writing i16 (pos 0) a out₀ out i p
+Inv-loop out₀ a i₀ p₀ out i p = WritingFigures i16 (pos 0) a out₀ out i p
 
 abbrev μ-loop : tie.MeasureT-loop
 μ-loop out₀ a i₀ p₀ out i p = length a - i

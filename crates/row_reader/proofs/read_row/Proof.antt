@@ -1,39 +1,103 @@
--- `row_reader::read_row` meets its contract: the field's refusal, then its figures.
+-- `row_reader::read_row` meets its contract: the field's refusal, then four runs of figures, one behind the other.
 -- Assumes nothing.
+use Prim.Native.Nat.{ℕ, _+_, _^_, _≤_, _<_}
+use mathlib.Core.Bool.{Bool, true, _&&_}
+use mathlib.Core.List.{List}
 use native.Mathlib.Omega.{arith}
+use mathlib.Core.Path.{_≡_, refl, _∙_}
+use lib.ListN.{length, drop}
+use lib.Seq.{drop-drop}
+use lib.IntN.{ℤ}
 use denote.Ref.{now}
 use Rattle.outcome.specs.declared.Refusal.the-variants.{OutsideLimits}
+use Rattle.buffer.specs.AllLaws.{and-left, and-right}
+use Rattle.figures.specs.Figures.{i16, u16, i32, u32, within, upTo, Answered, RunAnswered}
+use Rattle.fields.specs.Field.{headerSize, valueOf}
 use Rattle.fields.specs.FieldLaws.{value-at}
-use Rattle.casefile.specs.Decode.{rowDue, rowStatus}
+use Rattle.limits.specs.Limits.{coefficientLimit, toleranceLimit, rightSideLimit, rightToleranceLimit}
+use Rattle.rows.specs.Block.{Block, block, RowLists}
+use Rattle.casefile.specs.Case.{rowsFine}
+use Rattle.casefile.specs.Layout.{tolerancesAt, rightSideAt, rightToleranceAt, rowSize, RowPlaced}
+use Rattle.casefile.specs.Decode.{rowOf, rowDue, rowStatus}
 use Rattle.casefile.specs.DueLaws.{Checked, checked}
-use Rattle.casefile.specs.AnswerLaws.{answer-stops, answer-goes-on}
+use Rattle.casefile.specs.AnswerLaws.{answer-stops, answer-goes-on, run-at}
+use Rattle.casefile.specs.RowLaws.{at-right-side, at-right-tolerance}
 use borrow.Author.Needs.{needs}
 use Rattle.row_reader.proofs.read_row.Statement.{statement}
 use Rattle.row_reader.proofs.read_row.Tie as tie
 
+-- four runs of figures, each with its test, are a row with its own
+row-answered : (n : ℕ) (v : List ℕ) {a b : List ℤ} {t f : List ℕ} {b1 b2 b3 b4 : Bool} → let r = rowOf n v in
+    RunAnswered (within coefficientLimit) (r .coefficients) b1 a
+    → RunAnswered (upTo toleranceLimit) (r .tolerances) b2 t
+    → RunAnswered (within rightSideLimit) (r .right-sides) b3 b
+    → RunAnswered (upTo rightToleranceLimit) (r .right-tolerances) b4 f
+    → Answered true (rowsFine r) r (b1 && (b2 && (b3 && b4))) (block a t b f)
+unfolding rowsFine
+row-answered n v w1 w2 w3 w4 = record { status = search; made = λ h. search (and-left, and-right, w1 .made, w2 .made, w3 .made, w4 .made) }
+
+-- a place of the field's value
+in-value : (s : List ℕ) (at q : ℕ) {p : ℕ} → p ≡ q → drop (at + headerSize + p) s ≡ drop q (valueOf (drop at s))
+in-value s at q e = rw (e, ← (drop-drop q (at + headerSize) s), value-at s at)
+
 -- the field, checked
 module _ (k : tie.After-check-field) where
-  abbrev start : tie.Start
-  start = k .before .before .before .before .before
+  abbrev placed : tie.After-row-places
+  placed = k .before
 
-  field : Checked (rowDue (start .args .n)) (now (start .args .s)) (start .args .at) (k .check-field .result)
-  field = checked (rowDue (start .args .n)) (now (start .args .s)) (start .args .at) _ (k .before .row-places .ensures .len) (k .check-field .ensures)
+  abbrev start : tie.Start
+  start = placed .before .before .before .before
+
+  abbrev s : List ℕ
+  s = now (start .args .s)
+
+  abbrev value : List ℕ
+  value = valueOf (drop (start .args .at) s)
+
+  field : Checked (rowDue (start .args .n)) s (start .args .at) (k .check-field .result)
+  field = checked (rowDue (start .args .n)) s (start .args .at) refl (placed .row-places .ensures .len) (k .check-field .ensures)
+
+-- it is not refused: the row's places, its room and its lists
+known : (k : tie.After-enum-told2) → let h = k .before .before in let g = start h .args in
+    RowPlaced (g .n) (placed h .row-places .result)
+    × (g .at + rowSize (g .n) ≤ length (s h))
+    × RowLists (g .n) (block (now (g .a)) (now (g .t)) (now (g .b)) (now (g .f)))
+    × (length (s h) < 2 ^ 64)
+known k = let h = k .before .before in (placed h .row-places .ensures, field h .room (k .enum-told2 .given .1), start h .pre, omega (arith, start h .good))
+
+-- the same where the coefficients, the tolerances and the right side have been read
+abbrev second : tie.After-struct-known → tie.After-enum-told2
+second c = c .before .before .before .before
+
+abbrev third : tie.After-struct-known2 → tie.After-enum-told2
+third c = second (c .before .before .before .before .before)
+
+abbrev fourth : tie.After-struct-known3 → tie.After-enum-told2
+fourth c = third (c .before .before .before .before)
 
 returns : tie.Need-returns
 unfolding rowStatus
 returns c = answer-stops (field (c .before .before) .is) _ (c .enum-told .given .1)
 
-read-figures-requires : tie.Need-read-figures-requires
-read-figures-requires c κs = let k = c .before .before .before .before .before .before in
-    omega (arith, start k .pre, field k .room (c .before .before .before .before .enum-told2 .given .1))
-
 returns-2 : tie.Need-returns-2
-unfolding rowStatus
+unfolding rowStatus rowOf
 returns-2 c =
-    let w = c .before .before .before .before .before .before .before in
-    let k = w .before .before .before .before .before .before .before in
-    let q = rw (start k .pre .counts .la, value-at (now (start k .args .s)) (start k .args .at)) at (w .read-figures .ensures) in
-    answer-goes-on (field k .is) OutsideLimits (w .before .before .before .before .before .enum-told2 .given .1) q (c .check .ensures)
+    let w4 = c .before .before .before in
+    let w3 = w4 .before .before .before .before in
+    let w2 = w3 .before .before .before .before .before in
+    let w1 = w2 .before .before .before .before in
+    let told = w1 .before .before in
+    let h = told .before .before in
+    let g = start h .args in
+    let q = known told in
+    let l = q .2 .counts in
+    answer-goes-on (field h .is) OutsideLimits (told .enum-told2 .given .1)
+    (row-answered (g .n) (value h)
+    (run-at i16 _ (value-at (s h) (g .at)) (l .la) (w1 .read-i16s .ensures))
+    (run-at u16 _ (in-value (s h) (g .at) (tolerancesAt (g .n)) (q .0 .tolerances)) (l .lt) (w2 .read-u16s .ensures))
+    (run-at i32 _ (in-value (s h) (g .at) (rightSideAt (g .n)) (q .0 .right-side) ∙ at-right-side (g .n) (value h)) (l .lb) (w3 .read-i32s .ensures))
+    (run-at u32 _ (in-value (s h) (g .at) (rightToleranceAt (g .n)) (q .0 .right-tolerance) ∙ at-right-tolerance (g .n) (value h)) (l .lf) (w4 .read-u32s .ensures)))
+    (c .check .ensures)
 
 pub read-row-spec : {M : Type 1} → statement M
 read-row-spec =
@@ -44,8 +108,14 @@ read-row-spec =
     (λ c. search needs)
     returns
     (λ c. search needs)
-    (λ c. let k = c .before .before in omega (arith, start k .good, field k .room (c .enum-told2 .given .1)))
-    read-figures-requires
+    (λ c. omega (arith, known c))
+    (λ c κs. omega (arith, known (c .before)))
+    (λ c. omega (arith, known (second c)))
+    (λ c κs. omega (arith, known (second (c .before))))
+    (λ c. omega (arith, known (third c)))
+    (λ c κs. omega (arith, known (third (c .before))))
+    (λ c. omega (arith, known (fourth c)))
+    (λ c κs. omega (arith, known (fourth (c .before))))
     (λ c κs. search needs)
     (λ c. search needs)
     (λ c. search needs)

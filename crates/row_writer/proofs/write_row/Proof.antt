@@ -7,7 +7,7 @@ use lib.ListN.{length}
 use denote.Ref.{now}
 use Rattle.rows.specs.Block.{block, RowLists}
 use Rattle.casefile.specs.Layout.{rowSize, RowPlaced}
-use Rattle.row_writer.proofs.Writing.{row-written}
+use Rattle.row_writer.proofs.Rows.{row-written}
 use borrow.Author.Needs.{needs}
 use Rattle.row_writer.proofs.write_row.Statement.{statement}
 use Rattle.row_writer.proofs.write_row.Tie as tie

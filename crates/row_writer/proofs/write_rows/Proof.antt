@@ -8,12 +8,12 @@ use denote.Ref.{now}
 use Rattle.limits.specs.Limits.{mostTanks}
 use Rattle.rows.specs.Block.{block, HasRoom}
 use Rattle.casefile.specs.Layout.{rowSize}
-use Rattle.row_writer.proofs.Writing.{Writing, begun, next, row-room, row-lists, turn, ended}
+use Rattle.row_writer.proofs.Rows.{WritingRows, begun, next, row-room, row-lists, turn, ended}
 use Rattle.row_writer.proofs.write_rows.Statement.{statement}
 use Rattle.row_writer.proofs.write_rows.Tie as tie
 
 abbrev Inv-loop : tie.InvT-loop
-Inv-loop out₀ n a t b f size i₀ from₀ p₀ out i from p = Writing out₀ n (block a t b f) out i from p
+Inv-loop out₀ n a t b f size i₀ from₀ p₀ out i from p = WritingRows out₀ n (block a t b f) out i from p
 
 abbrev μ-loop : tie.MeasureT-loop
 μ-loop out₀ n a t b f size i₀ from₀ p₀ out i from p = n - i

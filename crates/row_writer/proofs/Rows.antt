@@ -50,14 +50,14 @@ module _ (out : List ℕ) (r : Block) (h : RowLists (length (r .coefficients)) r
 -- ---- the rows so far
 
 module _ (out₀ : List ℕ) (n : ℕ) (lists : Block) where
-  pub record Writing (out : List ℕ) (i from p : ℕ) : Type 0 where
+  pub record WritingRows (out : List ℕ) (i from p : ℕ) : Type 0 where
     pub at-row : AtRow n lists i from
     pub running : Running (rowSize n) (λ j. rowField (getD (split n n lists) j noRow)) n 0 out₀ out i p
 
-  pub begun : n * rowSize n ≤ length out₀ → RowsRoom n lists → Writing out₀ 0 0 0
+  pub begun : n * rowSize n ≤ length out₀ → RowsRoom n lists → WritingRows out₀ 0 0 0
   begun h l = record { at-row = first-row l; running = run-begun (omega (arith, h)) }
 
-  module _ {out : List ℕ} {i from p : ℕ} (r : Writing out i from p) where
+  module _ {out : List ℕ} {i from p : ℕ} (r : WritingRows out i from p) where
     -- the parts of the next row
     abbrev row : Block
     row = front (from + n - from) (i + 1 - i) (behind from i lists)
@@ -66,14 +66,7 @@ module _ (out₀ : List ℕ) (n : ℕ) (lists : Block) where
     next h = (r .at-row .room .small, row-held (r .at-row) h, run-next (r .running) h)
 
     row-counts : i < n → Counts n 1 row
-    row-counts h =
-        let N = next h .1 in
-        record {
-          la = counted from n _ (N .la);
-          lt = counted from n _ (N .lt);
-          lb = counted i 1 _ (N .lb);
-          lf = counted i 1 _ (N .lf);
-        }
+    row-counts h = search (counted, row-held (r .at-row) h)
       where
         counted : {X : Type 0} (k m : ℕ) (l : List X) → k + m ≤ length l → length (take (k + m - k) (drop k l)) ≡ m
         counted k m l h = simp (length-take, length-drop) (omega arith)
@@ -86,7 +79,7 @@ module _ (out₀ : List ℕ) (n : ℕ) (lists : Block) where
     pub row-lists : i < n → RowLists (length (row .coefficients)) row
     row-lists h = let c = row-counts h in omega (arith, c, r .at-row .room .small)
 
-    pub turn : i < n → {size : ℕ} → size ≡ rowSize n → {ys : List ℕ} → ys ≡ onto (rowField row) (part out p) → Writing (put out p ys) (i + 1) (from + n) (p + size)
+    pub turn : i < n → {size : ℕ} → size ≡ rowSize n → {ys : List ℕ} → ys ≡ onto (rowField row) (part out p) → WritingRows (put out p ys) (i + 1) (from + n) (p + size)
     turn h es e =
         let k : from + n - from ≡ n = omega arith in
         let j : i + 1 - i ≡ 1 = omega arith in

@@ -1,9 +1,0 @@
--- `casefile::trial_length` meets its contract: the length is the definition's.
--- Assumes nothing.
-use native.Mathlib.Omega.{arith}
-use borrow.Author.Needs.{needs}
-use Rattle.casefile.proofs.trial_length.Statement.{statement}
-use Rattle.casefile.proofs.trial_length.Tie as tie
-
-pub trial-length-spec : {M : Type 1} → statement M
-trial-length-spec = tie.close (tie.spec (λ c. search needs) (λ c. omega arith))
