@@ -3,14 +3,13 @@
 use mathlib.Core.Bool.{false}
 use mathlib.Core.List.{List}
 use Prim.Native.Nat.{ℕ, _^_, _≤_}
-use lib.ListN.{length}
+use lib.ListN.{length, replicate}
 use lib.IntN.{pos}
 use Rattle.limits.specs.Limits.{mostTanks, mostExponent}
 use Rattle.outcome.specs.declared.Refusal.{Refusal}
 use Rattle.outcome.specs.declared.Refusal.the-variants.{ZeroPivot, OutsideRange}
 use Rattle.outcome.specs.declared.Status.{Status as FileStatus}
 use Rattle.outcome.specs.declared.Status.the-variants.{Accepted, Refused as RefusedBy}
-use Rattle.integers.specs.Tables.{table}
 use Rattle.casefile.specs.declared.Case.{Case}
 use Rattle.casefile.specs.Case.{whereBrought}
 use Rattle.casefile.specs.Decode.{Decoded, accepted, refused, decode, heldRows, stored}
@@ -78,13 +77,13 @@ no-judgement =
       unmet = 0;
       none = false;
       decides = 0;
-      residuals = table mostTanks (λ i. pos 0);
-      reaches = table mostTanks (λ i. 0);
+      residuals = replicate mostTanks (pos 0);
+      reaches = replicate mostTanks 0;
     }
 
 abbrev pub no-answer : Refusal → Answer
 no-answer r =
-    record { status = RefusedBy r; n = 0; exponent = 0; rounds = 0; trial = table mostTanks (λ i. pos 0); judgement = no-judgement }
+    record { status = RefusedBy r; n = 0; exponent = 0; rounds = 0; trial = replicate mostTanks (pos 0); judgement = no-judgement }
 
 unfoldable pub answer-of : Decoded → Answer
 answer-of (accepted c) = answer-with (stored c .n) (stored c .exponent) (worked (stored c))

@@ -15,7 +15,7 @@ use Rattle.casefile.specs.Case.{Case, whereBrought, trialCount}
 
 -- "01, length 3: n, e, K, one byte each"
 abbrev pub headTag : ℕ
-headTag = 1
+headTag = 0x01
 
 abbrev pub headLength : ℕ
 headLength = 3
@@ -42,7 +42,7 @@ rowsAt = headerSize + headLength
 
 -- "02, length 4n + 8, one for each row"
 abbrev pub rowTag : ℕ
-rowTag = 2
+rowTag = 0x02
 
 abbrev pub rowLength : ℕ → ℕ
 rowLength n = 4 * n + 8
@@ -73,7 +73,7 @@ rowsEnd n = rowsAt + n * rowSize n
 
 -- "03, length 4n, present exactly if K is 0"
 abbrev pub trialTag : ℕ
-trialTag = 3
+trialTag = 0x03
 
 -- "n trial figures of 4 bytes", signed
 abbrev pub trialKind : Kind ℤ

@@ -11,11 +11,11 @@ use limits::MOST_TANKS;
 use outcome::Status;
 
 // Document 01, "Layout of case and record".
-pub const HEAD_TAG: u8 = 1;
+pub const HEAD_TAG: u8 = 0x01;
 
-pub const ROW_TAG: u8 = 2;
+pub const ROW_TAG: u8 = 0x02;
 
-pub const TRIAL_TAG: u8 = 3;
+pub const TRIAL_TAG: u8 = 0x03;
 
 pub const HEAD_LENGTH: usize = 3;
 
@@ -58,7 +58,8 @@ pub struct RowPlaces {
     pub size: usize,
 }
 
-// What follows the rows of n tanks: where the trial's field begins, how many figures the trial has, how long its value is, and where the end field begins.
+// What follows the rows of n tanks: where the trial's field begins, how many figures the trial has, how long its value is where there is one, and where the end
+// field begins.
 pub struct TailPlaces {
     pub trial: usize,
     pub count: usize,
@@ -81,7 +82,7 @@ pub fn row_places(n: usize) -> RowPlaces
     requires { ⌜ n ≤ mostTanks ⌝ }
     ensures { λ r. ⌜ RowPlaced n r ⌝ }
 {
-    let tolerances = SIZE_16 * n;
+    let tolerances = n * SIZE_16;
     let right_side = tolerances + n * SIZE_16;
     let right_tolerance = right_side + SIZE_32;
     let len = right_tolerance + SIZE_32;

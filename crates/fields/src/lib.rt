@@ -13,7 +13,7 @@ const LENGTH_AT: usize = 1;
 pub const HEADER_SIZE: usize = LENGTH_AT + bigendian::SIZE_16;
 
 // The end field: it has no value.
-pub const END_TAG: u8 = 255;
+pub const END_TAG: u8 = 0xFF;
 
 pub const END_LENGTH: usize = 0;
 

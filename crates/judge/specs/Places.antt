@@ -5,10 +5,10 @@ use Prim.Native.Nat.{ℕ, _+_, _<_, _≤_}
 use native.Mathlib.Omega.{arith}
 use native.Mathlib.Decide.{decLt}
 use borrow.Author.Tests.{lt-ltb, le-ltb}
-use lib.ListN.{length, getD, set, List·getD-eq-default}
+use lib.ListN.{length, getD, set, replicate, List·getD-eq-default}
 use lib.Seq.{ext-getD}
 use Rattle.limits.specs.Limits.{mostTanks}
-use Rattle.integers.specs.Tables.{table, filled, until, fill, length-table, getD-table, same-at, fill-at, fill-more, length-fill}
+use Rattle.integers.specs.Tables.{filled, until, fill, length-table, getD-table, same-at, fill-at, fill-more, length-fill}
 
 -- eight places, with z in each past the first n
 pub record Cleared {X : Type 0} (n : ℕ) (z : X) (l : List X) : Type 0 where
@@ -16,7 +16,7 @@ pub record Cleared {X : Type 0} (n : ℕ) (z : X) (l : List X) : Type 0 where
   pub past : (k : ℕ) → n ≤ k → getD l k z ≡ z
 
 module _ {X : Type 0} (z : X) where
-  pub zero-cleared : (n : ℕ) → Cleared n z (table mostTanks (λ _. z))
+  pub zero-cleared : (n : ℕ) → Cleared n z (replicate mostTanks z)
   zero-cleared n = record { eight = refl; past = λ k h. same-at z mostTanks k }
 
   pub filled-cleared : (n : ℕ) (f : ℕ → X) → n ≤ mostTanks → Cleared n z (filled mostTanks n z f)

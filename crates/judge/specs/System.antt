@@ -2,12 +2,11 @@
 -- document 001, in whole numbers. Definitions only. Assumes nothing.
 use mathlib.Core.List.{List}
 use Prim.Native.Nat.{ℕ, _+_, _*_}
-use lib.ListN.{getD}
+use lib.ListN.{getD, replicate}
 use lib.IntN.{ℤ, pos, natAbs, _-ℤ_, _*ℤ_}
 use Rattle.limits.specs.Limits.{mostTanks}
 use Rattle.rows.specs.Block.{Block, block}
 use Rattle.integers.specs.Sums.{sum, total}
-use Rattle.integers.specs.Tables.{table}
 
 -- A row: Σ A(j) x(j) = b, where A(j) is known within ± E(j) and b within ± f.
 pub record Row : Type 0 where
@@ -54,4 +53,4 @@ trial n D Y = record { n = n; D = D; Y = λ j. getD Y j (pos 0) }
 
 -- the trial whose figures are all zero
 abbrev pub zero-trial : ℕ → ℕ → Trial
-zero-trial n D = trial n D (table mostTanks (λ _. pos 0))
+zero-trial n D = trial n D (replicate mostTanks (pos 0))

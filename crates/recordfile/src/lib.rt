@@ -11,26 +11,26 @@ use judge::Judgement;
 use limits::MOST_TANKS;
 
 // Document 01, "Layout of case and record".
-pub const VERDICT_TAG: u8 = 16;
+const VERDICT_TAG: u8 = 0x10;
 
-pub const ANSWER_TAG: u8 = 17;
+const ANSWER_TAG: u8 = 0x11;
 
-pub const ROWS_TAG: u8 = 18;
+const ROWS_TAG: u8 = 0x12;
 
-pub const FACTOR_TAG: u8 = 19;
+const FACTOR_TAG: u8 = 0x13;
 
 pub const LONGEST_RECORD: usize = 180;
 
 // Where a verdict's and a factor's parts stand in their fields.
 const MET_AT: usize = HEADER_SIZE;
 
-const UNMET_AT: usize = HEADER_SIZE + 1;
+const UNMET_AT: usize = MET_AT + 1;
 
-const ROUNDS_AT: usize = HEADER_SIZE + 2;
+const ROUNDS_AT: usize = UNMET_AT + 1;
 
 const NONE_AT: usize = HEADER_SIZE;
 
-const DECIDES_AT: usize = HEADER_SIZE + 1;
+const DECIDES_AT: usize = NONE_AT + 1;
 
 // Where a row's reach stands in its pair, and how long the pair is.
 const REACH_AT: usize = bigendian::SIZE_64;

@@ -1,53 +1,18 @@
--- What a run of writes leaves in the buffer: a row, and the rows so far.
+-- The rows written so far.
 -- Assumes nothing.
-use mathlib.Core.Path.{_≡_, refl, sym, _∙_}
-use mathlib.Core.List.{List, append-assoc}
+use mathlib.Core.Path.{_≡_, sym}
+use mathlib.Core.List.{List}
 use Prim.Native.Nat.{ℕ, _+_, _*_, _-_, _≤_, _<_}
 use native.Mathlib.Omega.{arith}
 use lib.ListN.{length, getD, take, drop, length-take, length-drop}
 use Rattle.buffer.specs.Buffer.{onto, joined}
 use Rattle.buffer.specs.Laws.{part, put}
-use Rattle.buffer.specs.WroteLaws.{wrote-front, wrote-more}
 use Rattle.buffer.specs.RunLaws.{Running, run-begun, run-next, run-turn-lent, run-joined}
-use Rattle.figures.specs.Figures.{i16, u16, i32, u32, spread}
-use Rattle.figures.specs.FigureLaws.{length-spread}
-use Rattle.fields.specs.Field.{headerSize, header}
-use Rattle.fields.specs.FieldLaws.{length-header, field-is-header}
 use Rattle.limits.specs.Limits.{mostTanks}
 use Rattle.rows.specs.Block.{Block, noRow, Counts, HasRoom, RowLists, RowsRoom, front, behind, split}
-use Rattle.casefile.specs.Layout.{rowTag, rowSize, RowPlaced, rowBytes, rowField}
-use Rattle.casefile.specs.declared.RowPlaces.{RowPlaces}
+use Rattle.casefile.specs.Layout.{rowSize, rowField}
 use Rattle.rows.specs.BlockLaws.{split-at, length-split, AtRow, first-row, row-held, next-row}
-use Rattle.casefile.specs.RowLaws.{length-row, length-row-field}
-
--- ---- a row
-
-module _ (out : List ℕ) (r : Block) (h : RowLists (length (r .coefficients)) r) where
-  abbrev n : ℕ
-  n = length (r .coefficients)
-
-  pub row-written : (p : RowPlaces) (x0 y1 y2 y3 y4 : List ℕ) → RowPlaced n p
-      → x0 ≡ onto (header rowTag (p .len)) out
-      → y1 ≡ onto (spread i16 (r .coefficients)) (part x0 headerSize)
-      → y2 ≡ onto (spread u16 (r .tolerances)) (part (put x0 headerSize y1) (headerSize + p .tolerances))
-      → y3 ≡ onto (spread i32 (r .right-sides)) (part (put (put x0 headerSize y1) (headerSize + p .tolerances) y2) (headerSize + p .«right_side»))
-      → y4 ≡ onto (spread u32 (r .right-tolerances)) (part (put (put (put x0 headerSize y1) (headerSize + p .tolerances) y2) (headerSize + p .«right_side») y3) (headerSize + p .«right_tolerance»))
-      → put (put (put (put x0 headerSize y1) (headerSize + p .tolerances) y2) (headerSize + p .«right_side») y3) (headerSize + p .«right_tolerance») y4 ≡ onto (rowField r) out
-  unfolding rowBytes
-  row-written p x0 y1 y2 y3 y4 g e0 e1 e2 e3 e4 =
-      let c = h .counts in
-      let A : List ℕ = spread i16 (r .coefficients) in
-      let T : List ℕ = spread u16 (r .tolerances) in
-      let B : List ℕ = spread i32 (r .right-sides) in
-      let F : List ℕ = spread u32 (r .right-tolerances) in
-      let w0 = wrote-front (header rowTag (p .len)) out e0 (length-header rowTag (p .len)) in
-      let w1 = wrote-more A (headerSize + p .tolerances) w0 e1 (omega (arith, length-spread i16 (r .coefficients), g)) in
-      let w2 = wrote-more T (headerSize + p .«right_side») w1 e2 (omega (arith, length-spread u16 (r .tolerances), c, g)) in
-      let w3 = wrote-more B (headerSize + p .«right_tolerance») w2 e3 (omega (arith, length-spread i32 (r .right-sides), c, g)) in
-      let w4 = wrote-more F _ w3 e4 refl in
-      rw (← (field-is-header rowTag (rowBytes r) (p .len) (length-row c ∙ sym (g .len)))) ((simp append-assoc at w4) .bytes)
-
--- ---- the rows so far
+use Rattle.casefile.specs.RowLaws.{length-row-field}
 
 module _ (out₀ : List ℕ) (n : ℕ) (lists : Block) where
   pub record WritingRows (out : List ℕ) (i from p : ℕ) : Type 0 where

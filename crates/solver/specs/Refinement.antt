@@ -4,10 +4,10 @@ use mathlib.Core.Bool.{Bool, true, false, cond, not, _||_}
 use mathlib.Core.List.{List}
 use Prim.Native.Nat.{ℕ, zero, suc, _+_}
 use lib.Dec.{leb, eqb}
-use lib.ListN.{getD, set}
+use lib.ListN.{getD, set, replicate}
 use lib.IntN.{ℤ, pos, natAbs, _+ℤ_}
 use Rattle.limits.specs.Limits.{mostTanks, trialLimit}
-use Rattle.integers.specs.Tables.{table, filled}
+use Rattle.integers.specs.Tables.{filled}
 use Rattle.judge.specs.System.{System, Trial, trial}
 use Rattle.judge.specs.Judgement.{residuals, standing}
 use Rattle.substitution.specs.Passes.{Corrections, forward, backward}
@@ -68,7 +68,7 @@ measured s D k Y = record { within = true; rounds = k; trial = Y; standing = sta
 
 -- "Y starts at zero."
 abbrev pub start : System → ℕ → Progress
-start s D = measured s D 0 (table mostTanks (λ _. pos 0))
+start s D = measured s D 0 (replicate mostTanks (pos 0))
 
 -- refusal 9: what stood before the round stays, with the mark
 abbrev pub refused : Progress → Progress

@@ -4,11 +4,10 @@ use mathlib.Core.Bool.{Bool, true, false, cond}
 use mathlib.Core.List.{List, []}
 use Prim.Native.Nat.{ℕ, zero, suc, _+_, _-_}
 use lib.Dec.{leb}
-use lib.ListN.{getD, set}
+use lib.ListN.{getD, set, replicate}
 use lib.IntN.{ℤ, pos, natAbs, _-ℤ_, _*ℤ_}
 use Rattle.limits.specs.Limits.{mostTanks}
 use Rattle.integers.specs.Sums.{sum}
-use Rattle.integers.specs.Tables.{table}
 use Rattle.rounding.specs.Round.{rnd}
 
 -- ---- forward: "From the top, z(i) loses rnd(M(i,j) × z(j) / 16,384) for j = 1 to i − 1 in turn."
@@ -44,7 +43,7 @@ corrections b d = record { within = b; values = d }
 
 -- before any is formed
 abbrev pub none : List ℤ
-none = table mostTanks (λ _. pos 0)
+none = replicate mostTanks (pos 0)
 
 -- "A correction is outside ±20,000,000"
 abbrev pub correction-limit : ℕ

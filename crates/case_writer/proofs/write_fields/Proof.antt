@@ -3,19 +3,20 @@
 use Prim.Native.Nat.{ℕ, _+_, _≤_}
 use native.Mathlib.Omega.{arith}
 use mathlib.Core.Path.{_≡_}
-use mathlib.Core.List.{List}
+use mathlib.Core.List.{List, [], append-assoc}
 use lib.ListN.{length, length-set}
 use denote.Ref.{now}
 use lib.Seq.{sets}
+use Rattle.buffer.specs.Buffer.{joined}
 use Rattle.buffer.specs.Laws.{put}
-use Rattle.buffer.specs.WroteLaws.{wrote-same}
-use Rattle.fields.specs.Field.{headerSize, endSize}
-use Rattle.fields.specs.FieldLaws.{field-stored}
+use Rattle.buffer.specs.WroteLaws.{wrote-same, wrote-front, wrote-more}
+use Rattle.fields.specs.Field.{headerSize, field, endTag, endSize, endField}
+use Rattle.fields.specs.FieldLaws.{length-field, field-stored}
 use Rattle.casefile.specs.Case.{Case, given, HeadSmall}
-use Rattle.casefile.specs.Layout.{headTag, headValue, rowsAt, endAt, TailPlaced, longestCase}
+use Rattle.casefile.specs.Layout.{headTag, headValue, rowsAt, endAt, TailPlaced, longestCase, rowField, rowsIn, trialBytes}
 use Rattle.casefile.specs.SoundLaws.{counts}
-use Rattle.casefile.specs.CaseLaws.{Good, good, length-encode, longest}
-use Rattle.case_writer.proofs.Whole.{fields-written}
+use Rattle.casefile.specs.CaseLaws.{Good, good, encode-is, length-rows-in, length-encode, longest}
+use Rattle.casefile.specs.TailLaws.{length-trial}
 use borrow.Author.Needs.{needs}
 use Rattle.case_writer.proofs.write_fields.Statement.{statement}
 use Rattle.case_writer.proofs.write_fields.Tie as tie
@@ -77,13 +78,19 @@ write-trial-requires c κs = let g = fine (begun (c .before)) in omega (arith, p
 returns : tie.Need-returns
 returns c =
     let e = c .before .before in
-    let w = e .before .before .before .before in
-    let p = w .before .before in
+    let t = e .before .before .before .before in
+    let p = t .before .before in
     let s = begun p in
+    let g = s .args in
     let h = header p .write-header in
-    fields-written (case s) (fine s) _ _ (now (s .args .out)) _ _ _ _ (p .tail-places .ensures .trial) (p .tail-places .ensures .end)
-    (field-stored headTag (headValue (s .args .n) (s .args .exponent) (s .args .rounds)) (now (s .args .out)) (h .last .0) (omega (arith, head-room (header p))) (h .ensures))
-    (rows p .write-rows .ensures) (w .write-trial .ensures) (e .write-end .ensures)
+    let at = p .tail-places .result in
+    let q = p .tail-places .ensures in
+    let v = headValue (g .n) (g .exponent) (g .rounds) in
+    let w0 = wrote-front (field headTag v) (now (g .out)) (field-stored headTag v (now (g .out)) (h .last .0) (omega (arith, head-room (header p))) (h .ensures)) (length-field headTag v) in
+    let w1 = wrote-more (joined rowField (rowsIn (case s))) (at .trial) w0 (rows p .write-rows .ensures) (omega (arith, q, length-rows-in (case s) (fine s))) in
+    let w2 = wrote-more (trialBytes (g .rounds) (now (g .y))) (at .end) w1 (t .write-trial .ensures) (omega (arith, q, length-trial (g .rounds) (g .n) (now (g .y)) (fine s .trial .count))) in
+    let w3 = wrote-more endField (at .end + endSize) w2 (e .write-end .ensures) (omega (arith, length-field endTag [])) in
+    rw (encode-is (case s)) (simp append-assoc at w3)
 
 same-length : tie.Need-same-length
 same-length c =

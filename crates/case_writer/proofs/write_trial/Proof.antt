@@ -2,11 +2,16 @@
 -- Assumes nothing.
 use Prim.Native.Nat.{ℕ}
 use native.Mathlib.Omega.{arith}
-use mathlib.Core.Path.{subst}
+use mathlib.Core.Path.{_≡_, subst}
+use mathlib.Core.List.{append-nil}
+use lib.ListN.{length}
 use denote.Ref.{now}
+use Rattle.figures.specs.Figures.{spread}
+use Rattle.figures.specs.FigureLaws.{length-spread}
+use Rattle.fields.specs.FieldLaws.{field-written}
+use Rattle.casefile.specs.Layout.{trialTag, trialKind}
 use Rattle.casefile.specs.TailLaws.{not-brought}
 use Rattle.case_writer.specs.Room.{TrialRoom}
-use Rattle.case_writer.proofs.Whole.{trial-written}
 use borrow.Author.Needs.{needs}
 use Rattle.case_writer.proofs.write_trial.Statement.{statement}
 use Rattle.case_writer.proofs.write_trial.Tie as tie
@@ -29,7 +34,9 @@ returns c =
     let h = w .before .before .before .before in
     let k = placed h in
     let a = start k .args in
-    rw (k .before .if1 .taken) (trial-written (now (a .out)) _ (now (a .y)) _ _ (omega (arith, brought k, k .tail-places .ensures)) (h .write-header .ensures) (w .write-i32s .ensures))
+    let v = spread trialKind (now (a .y)) in
+    let l : length v ≡ k .tail-places .result .len = omega (arith, length-spread trialKind (now (a .y)), brought k, k .tail-places .ensures) in
+    rw (k .before .if1 .taken) (simp append-nil (field-written trialTag _ v (now (a .out)) _ l (h .write-header .ensures) (w .write-i32s .ensures)))
 
 returns-2 : tie.Need-returns-2
 returns-2 c = rw (not-brought (c .before .before .args .rounds) _ _ (c .if1 .left))

@@ -6,7 +6,7 @@ use Rattle.casefile.proofs.row_places.Statement.{statement}
 use Rattle.casefile.proofs.row_places.Tie as tie
 
 returns : tie.Need-returns
-returns c = record { tolerances = omega arith; right-side = omega arith; right-tolerance = omega arith; len = omega arith; size = omega arith }
+returns c = omega arith
 
 pub row-places-spec : {M : Type 1} → statement M
 row-places-spec =

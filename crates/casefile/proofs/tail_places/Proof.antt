@@ -1,7 +1,8 @@
 -- `casefile::tail_places` meets its contract: the rows that a case can have fit, and each place is the definition's, by whether the rounds are none.
 -- Assumes nothing.
 use native.Mathlib.Omega.{arith}
-use mathlib.Core.Path.{_≡_, refl, sym}
+use mathlib.Core.Path.{_≡_}
+use Rattle.casefile.specs.Case.{trialCount}
 use Rattle.casefile.specs.Layout.{trialSize}
 use Rattle.casefile.specs.RowsLaws.{rows-fit}
 use Rattle.casefile.specs.TailLaws.{not-brought}
@@ -10,16 +11,13 @@ use Rattle.casefile.proofs.tail_places.Statement.{statement}
 use Rattle.casefile.proofs.tail_places.Tie as tie
 
 returns : tie.Need-returns
-returns c =
-    rw (c .before .before .row-places .ensures .size, c .if1 .taken)
-    (record { trial = refl; count = refl; len = omega arith; end = omega arith })
+returns c = rw (c .before .before .row-places .ensures .size, c .if1 .taken) (omega arith)
 
 returns-2 : tie.Need-returns-2
 returns-2 c =
     let g = c .before .before .before .args in
-    let none : trialSize (g .rounds) (g .n) ≡ 0 = not-brought (g .rounds) _ _ (c .if1 .left) in
-    rw (c .before .before .row-places .ensures .size)
-    (record { trial = refl; count = sym (not-brought _ _ _ (c .if1 .left)); len = omega arith; end = omega (arith, none) })
+    let none : (trialSize (g .rounds) (g .n) ≡ 0) × (trialCount (g .rounds) (g .n) ≡ 0) = (not-brought (g .rounds) _ _ (c .if1 .left), not-brought (g .rounds) _ _ (c .if1 .left)) in
+    rw (c .before .before .row-places .ensures .size) (omega (arith, none))
 
 pub tail-places-spec : {M : Type 1} → statement M
 tail-places-spec =

@@ -5,7 +5,7 @@ use Rattle.recordfile.proofs.record_places.Statement.{statement}
 use Rattle.recordfile.proofs.record_places.Tie as tie
 
 returns : tie.Need-returns
-returns c = record { answer-len = omega arith; rows = omega arith; rows-len = omega arith; factor = omega arith; end = omega arith }
+returns c = omega arith
 
 pub record-places-spec : {M : Type 1} → statement M
 record-places-spec =

@@ -1,16 +1,27 @@
 -- `row_writer::write_row` meets its contract: the header and four runs of figures, one behind the other.
 -- Assumes nothing.
-use Prim.Native.Nat.{_≤_}
+use Prim.Native.Nat.{_+_, _≤_}
 use native.Mathlib.Omega.{arith}
-use mathlib.Core.Path.{_≡_}
+use mathlib.Core.Path.{_≡_, refl, sym, ap, _∙_}
+use mathlib.Core.List.{append-assoc}
 use lib.ListN.{length}
 use denote.Ref.{now}
-use Rattle.rows.specs.Block.{block, RowLists}
-use Rattle.casefile.specs.Layout.{rowSize, RowPlaced}
-use Rattle.row_writer.proofs.Rows.{row-written}
+use Rattle.rows.specs.Block.{Block, block, RowLists}
+use Rattle.buffer.specs.Laws.{length-onto}
+use Rattle.buffer.specs.WroteLaws.{wrote-front, wrote-more}
+use Rattle.figures.specs.Figures.{i16, u16, i32, u32, spread}
+use Rattle.figures.specs.FigureLaws.{length-spread}
+use Rattle.fields.specs.Field.{headerSize, header as fieldHeader}
+use Rattle.fields.specs.FieldLaws.{length-header, field-is-header}
+use Rattle.casefile.specs.Layout.{rowTag, rowSize, RowPlaced, rowBytes, rowField}
+use Rattle.casefile.specs.RowLaws.{length-row, length-row-field}
 use borrow.Author.Needs.{needs}
 use Rattle.row_writer.proofs.write_row.Statement.{statement}
 use Rattle.row_writer.proofs.write_row.Tie as tie
+
+-- the row that is written
+abbrev row : tie.Start → Block
+row s = let g = s .args in block (now (g .a)) (now (g .t)) (now (g .b)) (now (g .f))
 
 -- where the header has been written: the places, and what was given
 module _ (h : tie.After-write-header) where
@@ -23,7 +34,7 @@ module _ (h : tie.After-write-header) where
   known : let g = given .args in
       RowPlaced (length (now (g .a))) (placed .row-places .result)
       × (rowSize (length (now (g .a))) ≤ length (now (g .out)))
-      × RowLists (length (now (g .a))) (block (now (g .a)) (now (g .t)) (now (g .b)) (now (g .f)))
+      × RowLists (length (now (g .a))) (row given)
       × (length (h .write-header .last .0) ≡ length (now (g .out)))
   known = (placed .row-places .ensures, given .pre .0, given .pre .1, omega (arith, h .write-header .kept))
 
@@ -55,27 +66,23 @@ module _ (c : tie.After-slice-known6) where
   abbrev start : tie.Start
   start = given header
 
-same-length : tie.Need-same-length
-same-length c =
-    omega (
-      arith,
-      start c .pre,
-      header c .write-header .kept,
-      coefficients c .write-i16s .kept,
-      tolerances c .write-u16s .kept,
-      right-side c .write-i32s .kept,
-      right-tolerance c .write-u32s .kept,
-    )
-
 returns : tie.Need-returns
-returns c = let g = start c .args in
-    row-written (now (g .out)) (block (now (g .a)) (now (g .t)) (now (g .b)) (now (g .f))) (start c .pre .1) _ _ _ _ _ _
-    (placed (header c) .row-places .ensures)
-    (header c .write-header .ensures)
-    (coefficients c .write-i16s .ensures)
-    (tolerances c .write-u16s .ensures)
-    (right-side c .write-i32s .ensures)
-    (right-tolerance c .write-u32s .ensures)
+unfolding rowBytes
+returns c =
+    let g = start c .args in
+    let p = placed (header c) .row-places .result in
+    let q = placed (header c) .row-places .ensures in
+    let k = start c .pre .1 .counts in
+    let w0 = wrote-front (fieldHeader rowTag (p .len)) (now (g .out)) (header c .write-header .ensures) (length-header rowTag (p .len)) in
+    let w1 = wrote-more (spread i16 (now (g .a))) (headerSize + p .tolerances) w0 (coefficients c .write-i16s .ensures) (omega (arith, length-spread i16 (now (g .a)), q)) in
+    let w2 = wrote-more (spread u16 (now (g .t))) (headerSize + p .«right_side») w1 (tolerances c .write-u16s .ensures) (omega (arith, length-spread u16 (now (g .t)), k, q)) in
+    let w3 = wrote-more (spread i32 (now (g .b))) (headerSize + p .«right_tolerance») w2 (right-side c .write-i32s .ensures) (omega (arith, length-spread i32 (now (g .b)), k, q)) in
+    let w4 = wrote-more (spread u32 (now (g .f))) _ w3 (right-tolerance c .write-u32s .ensures) refl in
+    rw (← (field-is-header rowTag (rowBytes (row (start c))) (p .len) (length-row k ∙ sym (q .len)))) ((simp append-assoc at w4) .bytes)
+
+-- the row has room, so the buffer's length stays
+same-length : tie.Need-same-length
+same-length c = let s = start c in ap length (returns c) ∙ length-onto (rowField (row s)) (now (s .args .out)) (omega (arith, length-row-field (s .pre .1 .counts), s .pre .0))
 
 pub write-row-spec : {M : Type 1} → statement M
 write-row-spec =

@@ -4,7 +4,7 @@ use mathlib.Core.Path.{ap}
 use mathlib.Core.Bool.{true}
 use lib.IntN.{pos}
 use Rattle.limits.specs.Limits.{mostTanks}
-use Rattle.integers.specs.Tables.{table}
+use lib.ListN.{replicate}
 use Rattle.judge.specs.declared.Standing.{Standing}
 use Rattle.judge.specs.System.{system}
 use Rattle.judge.specs.Places.{zero-cleared}
@@ -23,7 +23,7 @@ returns : tie.Need-returns
 returns c A E =
     let b = c .before .before .before .before .before .before .before .before .before in
     let g = b .args in
-    ap (λ (m : Standing). record { within = true; rounds = 0; trial = table mostTanks (λ _. pos 0); standing = m })
+    ap (λ (m : Standing). record { within = true; rounds = 0; trial = replicate mostTanks (pos 0); standing = m })
     (zero-measured (system (g .n) A E (g .right-sides .now) (g .right-tolerances .now)) (g .scale) _ _ _ (b .pre)
     (c .before .before .before .before .before .before .before .fill-scaled-sides .ensures)
     (c .before .before .before .before .before .fill-scaled-tolerances .ensures)
