@@ -4,16 +4,13 @@ use Prim.Native.Nat.{ℕ, _≤_}
 use native.Mathlib.Omega.{arith}
 use mathlib.Core.List.{List}
 use mathlib.Core.Path.{_≡_, sym, _∙_}
-use lib.ListN.{drop, replicate}
-use lib.IntN.{pos}
 use denote.Ref.{now}
 use Rattle.outcome.specs.declared.Status.the-variants.{Accepted}
 use Rattle.limits.specs.Limits.{mostTanks}
-use Rattle.casefile.specs.Layout.{rowsEnd}
 use Rattle.casefile.specs.Decode.{afterHead, rowsStatus}
 use Rattle.casefile.specs.RowsLaws.{square-fits}
 use Rattle.case_reader.specs.declared.Head.{Head}
-use Rattle.case_reader.specs.Read.{HeadFound, TailFound}
+use Rattle.case_reader.specs.Read.{HeadFound}
 use Rattle.case_reader.proofs.Whole.{small, head-stops, rows-stop, tail-stops, whole}
 use borrow.Author.Needs.{needs}
 use Rattle.case_reader.proofs.read_case.Statement.{statement}

@@ -1,14 +1,13 @@
 -- `case_reader::read_tail` meets its contract: the trial's refusal, then the end field's, then whether the input ends with it.
 -- Assumes nothing.
 use native.Mathlib.Omega.{arith}
-use Prim.Native.Nat.{_+_, _≤_}
 use mathlib.Core.Path.{_≡_, sym, _∙_}
-use lib.ListN.{length, drop, length-drop}
+use lib.ListN.{drop, length-drop}
 use lib.Seq.{drop-drop}
 use denote.Ref.{now}
 use Rattle.outcome.specs.declared.Status.the-variants.{Accepted}
-use Rattle.outcome.specs.Laws.{stops, first-goes-on}
-use Rattle.fields.specs.Field.{endTag, endLength, endSize, fieldStatus}
+use Rattle.outcome.specs.Laws.{first-goes-on}
+use Rattle.fields.specs.Field.{endTag, endLength, fieldStatus}
 use Rattle.fields.specs.FieldLaws.{field-room-at}
 use Rattle.casefile.specs.Layout.{rowsEnd, trialSize, endAt}
 use Rattle.casefile.specs.Decode.{trialStatus, endStatus, tailStatus}
