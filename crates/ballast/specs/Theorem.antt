@@ -18,8 +18,9 @@ use Rattle.casefile.specs.Case.{Case}
 use Rattle.casefile.specs.CaseLaws.{Good, decode-good}
 use Rattle.casefile.specs.Decode.{decode, stored}
 use Rattle.outcome.specs.Outcome.{said}
+use Rattle.outcome.specs.Laws.{first-right}
 use Rattle.casefile.specs.Write.{inRoom, leaves}
-use Rattle.casefile.specs.WriteLaws.{Filed, filed-count, in-room}
+use Rattle.casefile.specs.WriteLaws.{Filed, filed-count}
 use Rattle.judge.specs.System.{System, Trial, row, trial, residual, reach}
 use Rattle.judge.specs.Judgement.{judgement}
 use Rattle.judge.specs.Finding.{Justified, Agrees}
@@ -124,7 +125,7 @@ module _ (input out : List ℕ) (m : ℕ) (e : call input out .outcome ≡ said 
   counted = filed-count (inRoom longestRecord (length out) (x .status)) (record-of x) out m e
 
   from : Answering (decode input)
-  from = answering (decode input) (in-room longestRecord (x .status) (length out) (counted .accepted) .1)
+  from = answering (decode input) (search (counted .accepted, first-right))
 
   fine : Good (from .figures)
   fine = decode-good input (from .figures) (from .decoded)

@@ -48,7 +48,7 @@ be-lt (x ∷ s) b =
     let p = parts b in
     rw (pow-suc 256 (length s), mul-comm (256 ^ length s) 256) (digits-lt (p .0) (be-lt s (p .1)))
 
-pub bytes-be : (s : List ℕ) → Bytes s → bytes (length s) (be s) ≡ s
+bytes-be : (s : List ℕ) → Bytes s → bytes (length s) (be s) ≡ s
 unfolding be bytes
 bytes-be [] b = refl
 bytes-be (x ∷ s) b =
@@ -94,7 +94,7 @@ bytes-are (suc w) x h =
     let g : x < 256 * 256 ^ w = rw (pow-suc 256 w, mul-comm (256 ^ w) 256) at h in
     one (div-lt-iff-lt-mul (pos256 w) .1 g) (bytes-are w (x % 256 ^ w) (mod-lt x (pos256 w)))
 
-pub bytes-two : (v w x : ℕ) → x < 256 ^ (v + w) → bytes (v + w) x ≡ bytes v (x / 256 ^ w) ++ bytes w (x % 256 ^ w)
+bytes-two : (v w x : ℕ) → x < 256 ^ (v + w) → bytes (v + w) x ≡ bytes v (x / 256 ^ w) ++ bytes w (x % 256 ^ w)
 bytes-two v w x h =
     let a : ℕ = x / 256 ^ w in
     let b : ℕ = x % 256 ^ w in

@@ -51,7 +51,7 @@ module _ (c : Case) (out : List ℕ) (o : Outcome) {exit : List ℕ} (e : leaves
 -- ---- read, then written
 
 -- the case of the lists that a caller hands on, k figures of its trial
-abbrev pub handed : Stored → ℕ → Case
+abbrev handed : Stored → ℕ → Case
 handed p k =
     caseWith (p .n) (p .exponent) (p .rounds) (front (p .n * p .n) (p .n) (heldRows p)) (take k (p .trial))
 

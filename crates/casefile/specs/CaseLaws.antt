@@ -6,12 +6,11 @@ use mathlib.Core.Bool.{true}
 use Prim.Native.Nat.{ℕ, _+_, _*_, _≤_}
 use native.Mathlib.Omega.{arith}
 use lib.ListN.{length, drop, length-append}
-use lib.Seq.{drop-drop, drop-at}
+use lib.Seq.{drop-drop}
 use borrow.Author.Tests.{leb-true, le-leb, eqb-true, eq-eqb}
-use Rattle.outcome.specs.declared.Refusal.the-variants.{WrongLength, OutsideLimits}
 use Rattle.outcome.specs.declared.Status.{Status}
 use Rattle.outcome.specs.declared.Status.the-variants.{Accepted, Refused}
-use Rattle.outcome.specs.Laws.{check-accepted, check-then, first-accepted}
+use Rattle.outcome.specs.Laws.{check-accepted, first-left, first-right}
 use Rattle.bigendian.specs.Number.{bytes, Bytes}
 use Rattle.bigendian.specs.NumberLaws.{bytes-drop}
 use Rattle.buffer.specs.Buffer.{joined}
@@ -22,14 +21,13 @@ use Rattle.buffer.specs.AllLaws.{and-left, and-right}
 use Rattle.fields.specs.Field.{headerSize, afterField, field, endTag, endSize, endField}
 use Rattle.fields.specs.FieldLaws.{length-field}
 use Rattle.limits.specs.Limits.{trialLimit}
-use Rattle.rows.specs.Block.{Counts}
 use Rattle.casefile.specs.Case.{Case, headFine, HeadSmall, trialCount, counted, figuresFine, caseStatus}
 use Rattle.casefile.specs.Layout.{headTag, headLength, headValue, headField, rowsAt, rowSize, rowsEnd, longestCase, rowField, rowsIn, trialLength, trialSize, trialFields, trialBytes, encode}
 use Rattle.casefile.specs.Decode.{headDue, headTanks, headExponent, headRounds, headStatus, rowsStatus, rowsOf, trialStatus, endStatus, tailStatus, afterHead, afterRows, inputStatus, caseOf, accepted, decoded, decode}
 use Rattle.casefile.specs.DueLaws.{due-back, due-fine, due-same}
 use Rattle.rows.specs.BlockLaws.{length-split}
 use Rattle.casefile.specs.SoundLaws.{Sound, SoundBlock, sound, sound-fine, Rows, split-sound, together-split, split-together, together-sound}
-use Rattle.casefile.specs.RowsLaws.{length-row-fields, rows-back, rows-accepted, rows-sound, rows-same, rows-fit}
+use Rattle.casefile.specs.RowsLaws.{length-row-fields, rows-back, rows-sound, rows-same, rows-fit}
 use Rattle.casefile.specs.TailLaws.{brought-most, length-trial, trial-back, trial-sound, trial-same, end-back, end-same}
 
 -- ---- what a head that is not refused has
@@ -55,13 +53,7 @@ pub record Good (c : Case) : Type 0 where
 module _ (c : Case) where
   pub good : caseStatus c ≡ Accepted → Good c
   unfolding caseStatus counted figuresFine
-  good e =
-      let w1 = check-then (headFine (c .n) (c .exponent) (c .rounds)) OutsideLimits _ e in
-      let w2 = check-then (counted c) WrongLength _ (w1 .1) in
-      let f = check-accepted (figuresFine c) OutsideLimits (w2 .1) in
-      let limits = head-small (c .n) (c .exponent) (c .rounds) (w1 .0) in
-      let counts : Counts (c .n * c .n) (c .n) (c .rows) = search (w2 .0, and-left, and-right, eqb-true) in
-      search (w2 .0, and-left, and-right, eqb-true, sound)
+  good e = search (first-left, first-right, check-accepted, and-left, and-right, head-small, eqb-true, sound) depth 8
 
   accepts : Good c → caseStatus c ≡ Accepted
   unfolding caseStatus counted figuresFine
@@ -83,14 +75,14 @@ encode-is c =
 -- ---- encoded and decoded
 
 pub length-rows-in : (c : Case) → Good c → length (joined rowField (rowsIn c)) ≡ c .n * rowSize (c .n)
-length-rows-in c g = rw (length-split (c .n) (c .n) (c .rows)) at (length-row-fields (c .n) (split-sound (c .n) (c .n) (c .rows) (g .rows)))
+length-rows-in c g = rw (length-split (c .n) (c .n) (c .rows)) at (length-row-fields (split-sound (c .n) (g .rows)))
 
 head-back : (n x k : ℕ) (rest : List ℕ) → HeadSmall n x k → headStatus (headField n x k ++ rest) ≡ Accepted
 unfolding headStatus
 head-back n x k rest h = due-back headDue (record { n = n; exponent = x; rounds = k }) rest refl (omega arith) (small-head n x k h) refl .accepted
 
 -- what follows the rows
-pub after-rows : (n : ℕ) (s : List ℕ) → drop (rowsEnd n) s ≡ drop (n * rowSize n) (drop rowsAt s)
+after-rows : (n : ℕ) (s : List ℕ) → drop (rowsEnd n) s ≡ drop (n * rowSize n) (drop rowsAt s)
 after-rows n s = sym (drop-drop (n * rowSize n) rowsAt s)
 
 pub decode-encode : (c : Case) → caseStatus c ≡ Accepted → decode (encode c) ≡ accepted c
@@ -100,35 +92,31 @@ decode-encode c e =
     let T : List ℕ = trialBytes (c .rounds) (c .trial) ++ endField in
     let R : List ℕ = joined rowField (rowsIn c) in
     let H : List ℕ = headField (c .n) (c .exponent) (c .rounds) in
-    let rows = split-sound (c .n) (c .n) (c .rows) (g .rows) in
-    let m = length-split (c .n) (c .n) (c .rows) in
-    let accepted-rows = rw m at (rows-accepted (c .n) (g .limits .small) rows T) in
-    let read-rows = rw m at (rows-back (c .n) rows (g .limits .small) T) in
-    let tail : drop (rowsEnd (c .n)) (H ++ (R ++ T)) ≡ T =
-    after-rows (c .n) (H ++ (R ++ T)) ∙ drop-at R T (c .n * rowSize (c .n)) (length-rows-in c g) in
+    let r = rw (length-split (c .n) (c .n) (c .rows)) at (rows-back (g .limits .small) (split-sound (c .n) (g .rows)) T) in
     let t = trial-back (c .rounds) (c .n) (c .trial) endField (g .limits .small) (g .trial) in
     rw (
       encode-is c,
       head-back (c .n) (c .exponent) (c .rounds) (R ++ T) (g .limits),
-      accepted-rows,
-      tail,
+      r .accepted,
+      after-rows (c .n) (H ++ (R ++ T)),
+      r .after,
       t .accepted,
       t .after,
       end-back,
-      read-rows,
+      r .read,
       t .read,
-      together-split (c .n) (c .n) (c .rows) (g .rows),
+      together-split (c .n) (g .rows),
     )
 
 -- ---- what decodes
 
-pub decodes : (s : List ℕ) (c : Case) → decode s ≡ accepted c → (inputStatus s ≡ Accepted) × (caseOf s ≡ c)
+decodes : (s : List ℕ) (c : Case) → decode s ≡ accepted c → (inputStatus s ≡ Accepted) × (caseOf s ≡ c)
 unfolding decode
 decodes s c e = go (inputStatus s) refl e
   where
     go : (t : Status) → inputStatus s ≡ t → decoded t (caseOf s) ≡ accepted c → (inputStatus s ≡ Accepted) × (caseOf s ≡ c)
-    go Accepted h q = let w : caseOf s ≡ c = cc in (h, w)
-    go (Refused r) h q = let z : _≡_ {A = ℕ} 0 1 = cc in absurd (omega arith)
+    go Accepted h q = search
+    go (Refused r) h q = search
 
 module _ (s : List ℕ) (e : inputStatus s ≡ Accepted) where
   abbrev N : ℕ
@@ -137,19 +125,15 @@ module _ (s : List ℕ) (e : inputStatus s ≡ Accepted) where
   abbrev K : ℕ
   K = headRounds s
 
-  pub record Parts : Type 0 where
-    pub head : headStatus s ≡ Accepted
-    pub rows : rowsStatus N N (afterHead s) ≡ Accepted
-    pub trial : trialStatus K N (afterRows s) ≡ Accepted
-    pub end : endStatus (drop (trialSize K N) (afterRows s)) ≡ Accepted
+  record Parts : Type 0 where
+    head : headStatus s ≡ Accepted
+    rows : rowsStatus N N (afterHead s) ≡ Accepted
+    trial : trialStatus K N (afterRows s) ≡ Accepted
+    end : endStatus (drop (trialSize K N) (afterRows s)) ≡ Accepted
 
-  pub parts : Parts
+  parts : Parts
   unfolding inputStatus tailStatus
-  parts =
-      let w1 = first-accepted (headStatus s) _ e in
-      let w2 = first-accepted (rowsStatus N N (afterHead s)) _ (w1 .1) in
-      let w3 = first-accepted (trialStatus K N (afterRows s)) _ (w2 .1) in
-      record { head = w1 .0; rows = w2 .0; trial = w3 .0; end = w3 .1 }
+  parts = search (first-left, first-right)
 
   rows-are : Rows N (rowsOf N N (afterHead s))
   rows-are = rows-sound N N (afterHead s) (parts .rows)

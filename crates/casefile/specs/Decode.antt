@@ -12,12 +12,12 @@ use Rattle.outcome.specs.declared.Status.{Status}
 use Rattle.outcome.specs.declared.Status.the-variants.{Accepted, Refused}
 use Rattle.outcome.specs.Outcome.{check, first}
 use Rattle.buffer.specs.Buffer.{onto}
-use Rattle.figures.specs.Figures.{i16, u16, i32, u32, allWithin, items, figures, after, spread}
-use Rattle.fields.specs.Field.{endTag, endLength, endSize, valueOf, afterField, fieldStatus}
+use Rattle.figures.specs.Figures.{i16, u16, i32, u32, allWithin, items, figures, spread}
+use Rattle.fields.specs.Field.{endTag, endLength, endSize, valueOf, fieldStatus}
 use Rattle.limits.specs.Limits.{mostTanks, mostCoefficients, trialLimit}
-use Rattle.rows.specs.Block.{Block, block, over, together}
-use Rattle.casefile.specs.Case.{Case, caseWith, given, headFine, whereBrought, rowsFine}
-use Rattle.casefile.specs.Layout.{headTag, headLength, headValue, nIn, exponentIn, roundsIn, rowsAt, rowTag, rowLength, rowSize, rowsEnd, rowBytes, trialTag, trialKind, trialLength, trialSize}
+use Rattle.rows.specs.Block.{Block, block, over, noRow, together}
+use Rattle.casefile.specs.Case.{Case, caseWith, headFine, whereBrought, rowsFine}
+use Rattle.casefile.specs.Layout.{headTag, headLength, headValue, nIn, exponentIn, roundsIn, rowsAt, rowTag, rowLength, rowSize, tolerancesAt, rightSideAt, rightToleranceAt, rowsEnd, rowBytes, trialTag, trialKind, trialLength, trialSize}
 use Rattle.casefile.specs.declared.Case.{Case as Stored}
 use Rattle.casefile.specs.declared.Reading.{Reading}
 
@@ -74,9 +74,9 @@ unfoldable pub rowOf : ℕ → List ℕ → Block
 rowOf n v =
     block
     (figures i16 n v)
-    (figures u16 n (after i16 n v))
-    (figures i32 1 (after u16 n (after i16 n v)))
-    (figures u32 1 (after i32 1 (after u16 n (after i16 n v))))
+    (figures u16 n (drop (tolerancesAt n) v))
+    (figures i32 1 (drop (rightSideAt n) v))
+    (figures u32 1 (drop (rightToleranceAt n) v))
 
 abbrev pub rowDue : ℕ → Due Block
 rowDue n = record { tag = rowTag; len = rowLength n; read = rowOf n; fine = rowsFine; write = rowBytes }
@@ -91,7 +91,7 @@ rowStatus n s = dueStatus (rowDue n) s
 -- m rows, one field after another: the first refusal, and the rows
 unfoldable pub rowsStatus : ℕ → ℕ → List ℕ → Status
 rowsStatus n zero s = Accepted
-rowsStatus n (suc m) s = first (rowStatus n s) (rowsStatus n m (afterField (rowLength n) s))
+rowsStatus n (suc m) s = first (rowStatus n s) (rowsStatus n m (drop (rowSize n) s))
 
 abbrev pub rowsOf : ℕ → ℕ → List ℕ → List Block
 rowsOf n m s = items (rowSize n) (rowAt n) m s
@@ -179,7 +179,7 @@ stored c = held (c .n) (c .exponent) (c .rounds) (over (c .rows) places) (padded
 
 -- the case beside a refusal: all zeros
 abbrev pub noCase : Case
-noCase = given 0 0 0 [] [] [] [] []
+noCase = caseWith 0 0 0 noRow []
 
 unfoldable pub reading : Decoded → Reading
 reading (accepted c) = record { status = Accepted; case = stored c }

@@ -5,10 +5,9 @@ use mathlib.Core.Bool.{true}
 use mathlib.Core.List.{List, _++_}
 use Prim.Native.Nat.{ℕ, _+_, _^_, _≤_, _<_}
 use lib.ListN.{length, drop}
-use Rattle.outcome.specs.declared.Refusal.the-variants.{OutsideLimits}
 use Rattle.outcome.specs.declared.Status.{Status}
 use Rattle.outcome.specs.declared.Status.the-variants.{Accepted}
-use Rattle.outcome.specs.Laws.{first-check}
+use Rattle.outcome.specs.Laws.{check-accepted, first-left, first-right}
 use Rattle.bigendian.specs.Number.{Bytes}
 use Rattle.bigendian.specs.NumberLaws.{bytes-drop}
 use Rattle.fields.specs.Field.{lengthSize, headerSize, field, valueOf, afterField, fieldStatus}
@@ -37,22 +36,22 @@ module _ {A : Type 0} (d : Due A) where
 
 -- a field that is not refused
 module _ {A : Type 0} (d : Due A) (s : List ℕ) (accepted : dueStatus d s ≡ Accepted) where
-  two : (fieldStatus (d .tag) (d .len) s ≡ Accepted) × (d .fine (dueAt d s) ≡ true)
-  two = first-check (fieldStatus (d .tag) (d .len) s) (d .fine (dueAt d s)) OutsideLimits accepted
+  due-field : fieldStatus (d .tag) (d .len) s ≡ Accepted
+  due-field = search first-left
 
   pub due-fine : d .fine (dueAt d s) ≡ true
-  due-fine = two .1
+  due-fine = search (first-right, check-accepted)
 
   -- where a value's bytes are read and written back
   pub due-same : Bytes s → ((v : List ℕ) → Bytes v → d .len ≤ length v → (length (d .write (d .read v)) ≡ d .len) × (d .write (d .read v) ++ drop (d .len) v ≡ v))
       → field (d .tag) (d .write (dueAt d s)) ++ afterField (d .len) s ≡ s
   due-same bs same =
-      let w = same (valueOf s) (bytes-drop headerSize bs) (value-room (d .tag) (d .len) s (two .0)) in
-      field-same (d .tag) (d .len) s (two .0) bs (d .write (dueAt d s)) (w .0) (w .1)
+      let w = same (valueOf s) (bytes-drop headerSize bs) (value-room (d .tag) (d .len) s due-field) in
+      field-same (d .tag) (d .len) s due-field bs (d .write (dueAt d s)) (w .0) (w .1)
 
 -- where it stands in the whole input
 pub due-room-at : {A : Type 0} (d : Due A) (s : List ℕ) (at : ℕ) → dueStatus d (drop at s) ≡ Accepted → at + (headerSize + d .len) ≤ length s
-due-room-at d s at e = field-room-at (d .tag) (d .len) s at refl (two d (drop at s) e .0)
+due-room-at d s at e = field-room-at (d .tag) (d .len) s at refl (due-field d (drop at s) e)
 
 -- the check of a field that is due at a place, by the place and the length that were computed
 pub record Checked {A : Type 0} (d : Due A) (s : List ℕ) (at : ℕ) (x : Status) : Type 0 where

@@ -12,23 +12,15 @@ use Rattle.bigendian.specs.NumberLaws.{bytes-drop}
 use Rattle.figures.specs.Figures.{i16, u16, i32, u32, after}
 use Rattle.figures.specs.ItemLaws.{length-items}
 use Rattle.figures.specs.FigureLaws.{length-spread, after-spread, figures-spread, spread-figures}
-use Rattle.fields.specs.Field.{valueOf, afterField}
+use Rattle.fields.specs.Field.{valueOf}
 use Rattle.fields.specs.FieldLaws.{length-field}
 use Rattle.limits.specs.Limits.{mostTanks}
 use Rattle.rows.specs.Block.{Block, Counts}
-use Rattle.casefile.specs.Layout.{rowTag, rowLength, rowSize, rightSideAt, rightToleranceAt, rowBytes, rowField}
+use Rattle.casefile.specs.Layout.{rowTag, rowLength, rowSize, rightToleranceAt, rowBytes, rowField}
 use Rattle.casefile.specs.Decode.{rowOf, rowAt, rowDue, rowStatus}
 use Rattle.casefile.specs.DueLaws.{DueBack, due-back, due-fine, due-room-at, due-same}
 use Rattle.casefile.specs.KindLaws.{coefficient-lawful, tolerance-lawful, right-side-lawful, right-tolerance-lawful}
 use Rattle.casefile.specs.SoundLaws.{SoundBlock, counts, sound, sound-fine}
-
--- the places of a row's figures in its value
-module _ (n : ℕ) (v : List ℕ) where
-  pub at-right-side : drop (rightSideAt n) v ≡ after u16 n (after i16 n v)
-  at-right-side = simp drop-drop
-
-  pub at-right-tolerance : drop (rightToleranceAt n) v ≡ after i32 1 (after u16 n (after i16 n v))
-  at-right-tolerance = simp drop-drop
 
 -- how long a row is, by its counts
 module _ {n : ℕ} {r : Block} (c : Counts n 1 r) where
@@ -45,6 +37,7 @@ module _ {n : ℕ} {r : Block} (s : SoundBlock n 1 r) (rest : List ℕ) where
   value-back =
       search (
         append-assoc,
+        ← drop-drop,
         after-spread i16,
         after-spread u16,
         after-spread i32,
@@ -76,15 +69,12 @@ module _ (n : ℕ) (s : List ℕ) (accepted : rowStatus n s ≡ Accepted) where
       let v1 : List ℕ = after i16 n v in
       let v2 : List ℕ = after u16 n v1 in
       let v3 : List ℕ = after i32 1 v2 in
-      let l0 : i16 .width * n ≤ length v = omega arith in
-      let l1 : u16 .width * n ≤ length v1 = simp length-drop (omega arith) in
-      let l2 : i32 .width * 1 ≤ length v2 = simp length-drop (omega arith) in
-      let l3 : u32 .width * 1 ≤ length v3 = simp length-drop (omega arith) in
+      let room : (i16 .width * n ≤ length v) × (u16 .width * n ≤ length v1) × (i32 .width * 1 ≤ length v2) × (u32 .width * 1 ≤ length v3) = simp length-drop (omega arith) in
       let k : rowLength n ≡ rightToleranceAt n + u32 .width * 1 = omega arith in
-      let d : drop (rowLength n) v ≡ after u32 1 v3 = simp (k, drop-drop) in
       search (
         append-assoc,
-        d,
+        k,
+        ← drop-drop,
         bytes-drop,
         spread-figures u32 _ right-tolerance-lawful,
         spread-figures i32 _ right-side-lawful,
@@ -92,7 +82,7 @@ module _ (n : ℕ) (s : List ℕ) (accepted : rowStatus n s ≡ Accepted) where
         spread-figures i16 _ coefficient-lawful,
       )
 
-  pub row-same : Bytes s → rowField (rowAt n s) ++ afterField (rowLength n) s ≡ s
+  pub row-same : Bytes s → rowField (rowAt n s) ++ drop (rowSize n) s ≡ s
   unfolding rowStatus
   row-same bs = due-same (rowDue n) s accepted bs (λ v b h. (length-row (row-counts n v), same v b h))
 

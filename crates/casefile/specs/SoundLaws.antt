@@ -69,16 +69,16 @@ module _ (n : ℕ) where
     sound-behind : SoundBlock (m * n) m (behind n 1 r)
     sound-behind = search (behind-sound, figures-more n m, rows-one-more m)
 
-  pub split-sound : (m : ℕ) (r : Block) → SoundBlock (m * n) m r → Rows n (split n m r)
+  pub split-sound : {m : ℕ} {r : Block} → SoundBlock (m * n) m r → Rows n (split n m r)
   unfolding split
-  split-sound zero r s = none
-  split-sound (suc m) r s = one (sound-front m r s) (split-sound m (behind n 1 r) (sound-behind m r s))
+  split-sound {m = zero} s = none
+  split-sound {m = suc m} {r} s = one (sound-front m r s) (split-sound (sound-behind m r s))
 
   -- the rows of a block are the block, and the rows that a block was made of are its rows
-  pub together-split : (m : ℕ) (r : Block) → SoundBlock (m * n) m r → together (split n m r) ≡ r
+  pub together-split : {m : ℕ} {r : Block} → SoundBlock (m * n) m r → together (split n m r) ≡ r
   unfolding split
-  together-split zero r s = let e : front (zero * n) zero r ≡ r = search (take-all, le-of-eq) in rw (zero-mul n) at e
-  together-split (suc m) r s = simp (together-split m (behind n 1 r) (sound-behind m r s), take-append-drop)
+  together-split {m = zero} {r} s = let e : front (zero * n) zero r ≡ r = search (take-all, le-of-eq) in rw (zero-mul n) at e
+  together-split {m = suc m} {r} s = simp (together-split (sound-behind m r s), take-append-drop)
 
   pub split-together : {rs : List Block} → Rows n rs → split n (length rs) (together rs) ≡ rs
   unfolding split

@@ -8,9 +8,8 @@ use native.Mathlib.Nat.{le-of-eq}
 use lib.ListN.{length, drop, drop-of-length-le}
 use lib.IntN.{ℤ}
 use borrow.Author.Tests.{eqb-true}
-use Rattle.outcome.specs.declared.Refusal.the-variants.{TrailingBytes}
 use Rattle.outcome.specs.declared.Status.the-variants.{Accepted}
-use Rattle.outcome.specs.Laws.{first-check}
+use Rattle.outcome.specs.Laws.{check-accepted, first-left, first-right}
 use Rattle.bigendian.specs.Number.{be, bytes, Bytes}
 use Rattle.buffer.specs.Buffer.{all}
 use Rattle.figures.specs.Figures.{within, figures, spread}
@@ -42,10 +41,8 @@ length-trial (suc k) n y e = refl
 
 -- ---- a trial that was written
 
-abbrev pub TrialBack : ℕ → ℕ → List ℤ → List ℕ → Type 0
-TrialBack k n y rest = FieldBack (trialStatus k n) (trialOf k n) (trialSize k n) (trialBytes k y) y rest
-
-pub trial-back : (k n : ℕ) (y : List ℤ) (rest : List ℕ) → n ≤ mostTanks → Sound (within trialLimit) (trialCount k n) y → TrialBack k n y rest
+pub trial-back : (k n : ℕ) (y : List ℤ) (rest : List ℕ) → n ≤ mostTanks → Sound (within trialLimit) (trialCount k n) y
+    → FieldBack (trialStatus k n) (trialOf k n) (trialSize k n) (trialBytes k y) y rest
 unfolding trialStatus trialOf
 trial-back zero n y rest small h =
     let l : length (spread trialKind y) ≡ trialLength n = length-spread trialKind y ∙ rw (h .count) in
@@ -80,8 +77,7 @@ end-back = refl
 pub end-same : (s : List ℕ) → endStatus s ≡ Accepted → Bytes s → endField ≡ s
 unfolding endStatus
 end-same s e bs =
-    let w = first-check (fieldStatus endTag endLength s) _ TrailingBytes e in
-    let l : length s ≡ endSize = eqb-true _ _ (w .1) in
+    let l : length s ≡ endSize = search (first-right, check-accepted, eqb-true) in
     let d : drop endSize s ≡ [] = drop-of-length-le s (le-of-eq l) in
-    let f : endField ++ drop endSize s ≡ s = field-is endTag endLength s (w .0) bs in
+    let f : endField ++ drop endSize s ≡ s = field-is endTag endLength s (search first-left) bs in
     sym (append-nil endField) ∙ (rw d at f)

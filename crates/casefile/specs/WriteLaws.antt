@@ -6,7 +6,6 @@ use Prim.Native.Nat.{ℕ, _≤_, _<_}
 use native.Mathlib.Nat.{zero-add}
 use native.Mathlib.Omega.{arith}
 use lib.ListN.{length, take}
-use lib.Dec.{leb}
 use borrow.Author.Tests.{le-leb, lt-leb, leb-true}
 use Rattle.outcome.specs.declared.Refusal.{Refusal}
 use Rattle.outcome.specs.declared.Refusal.the-variants.{BufferTooShort}
@@ -14,7 +13,7 @@ use Rattle.outcome.specs.declared.Outcome.the-variants.{Count, Refused as Refus
 use Rattle.outcome.specs.declared.Status.{Status}
 use Rattle.outcome.specs.declared.Status.the-variants.{Accepted, Refused}
 use Rattle.outcome.specs.Outcome.{said}
-use Rattle.outcome.specs.Laws.{no-count, same-refusal, check-then}
+use Rattle.outcome.specs.Laws.{no-count, same-refusal, check-accepted, first-left, first-right}
 use Rattle.buffer.specs.Buffer.{onto, Wrote}
 use Rattle.bigendian.specs.Number.{Bytes}
 use Rattle.buffer.specs.Laws.{length-onto, take-onto}
@@ -44,23 +43,17 @@ filed-refusal : (t : Status) (bytes out : List ℕ) (r : Refusal) → filed t by
 filed-refusal Accepted bytes out r e = no-count r (length bytes) (sym e)
 filed-refusal (Refused q) bytes out r e = ap Refused (same-refusal q r e)
 
-module _ (asked : ℕ) (next : Status) where
-  pub in-room : (room : ℕ) → inRoom asked room next ≡ Accepted → (asked ≤ room) × (next ≡ Accepted)
-  in-room room e =
-      let w = check-then (leb asked room) BufferTooShort next e in
-      (leb-true asked room (w .0), w .1)
+-- the three ways through a call that tests the room and then a status
+module _ (asked : ℕ) (next : Status) (bytes out : List ℕ) where
+  pub filed-short : length out < asked → leaves (RefusedBy BufferTooShort) out ≡ filed (inRoom asked (length out) next) bytes out
+  filed-short h = rw (lt-leb asked (length out) h)
 
-  -- the three ways through a call that tests the room and then a status
-  module _ (bytes out : List ℕ) where
-    pub filed-short : length out < asked → leaves (RefusedBy BufferTooShort) out ≡ filed (inRoom asked (length out) next) bytes out
-    filed-short h = rw (lt-leb asked (length out) h)
+  pub filed-refused : (r : Refusal) → asked ≤ length out → next ≡ Refused r → leaves (RefusedBy r) out ≡ filed (inRoom asked (length out) next) bytes out
+  filed-refused r h e = rw (le-leb asked (length out) h, e)
 
-    pub filed-refused : (r : Refusal) → asked ≤ length out → next ≡ Refused r → leaves (RefusedBy r) out ≡ filed (inRoom asked (length out) next) bytes out
-    filed-refused r h e = rw (le-leb asked (length out) h, e)
-
-    pub filed-whole : {m : ℕ} {exit : List ℕ} → asked ≤ length out → next ≡ Accepted → Wrote bytes 0 out m exit
-        → leaves (Count m) exit ≡ filed (inRoom asked (length out) next) bytes out
-    filed-whole h e w = rw (le-leb asked (length out) h, e, w .place, w .bytes, zero-add (length bytes))
+  pub filed-whole : {m : ℕ} {exit : List ℕ} → asked ≤ length out → next ≡ Accepted → Wrote bytes 0 out m exit
+      → leaves (Count m) exit ≡ filed (inRoom asked (length out) next) bytes out
+  filed-whole h e w = rw (le-leb asked (length out) h, e, w .place, w .bytes, zero-add (length bytes))
 
 -- ---- written, then read
 
@@ -74,7 +67,7 @@ module _ (c : Case) (out : List ℕ) (m : ℕ) (e : write c out .outcome ≡ sai
 
   fine : (longestCase ≤ length out) × (caseStatus c ≡ Accepted)
   unfolding writeStatus
-  fine = in-room longestCase (caseStatus c) (length out) count-accepted
+  fine = search (written .accepted, first-left, first-right, check-accepted, leb-true)
 
   -- the count is within the longest case and the buffer
   pub count-le : m ≤ longestCase

@@ -1,21 +1,19 @@
 -- The laws of a field: one that was written is whole, and one that is whole is what a writer writes.
 -- Assumes nothing.
 use mathlib.Core.Path.{_≡_, refl, sym, ap, _∙_}
-use mathlib.Core.List.{List, [], _∷_, _++_, append-assoc}
+use mathlib.Core.List.{List, _++_, append-assoc}
 use Prim.Native.Nat.{ℕ, suc, _+_, _-_, _^_, _≤_, _<_}
 use native.Mathlib.Omega.{arith}
 use lib.ListN.{length, take, drop, length-append, length-drop, take-append-drop}
 use lib.Seq.{length-take-le, drop-drop, take-at, drop-at, drop-cons, sets, sets-eq}
-use lib.Dec.{leb, eqb}
 use borrow.Author.Tests.{le-leb, leb-true, eq-eqb, eqb-true}
-use Rattle.outcome.specs.declared.Refusal.the-variants.{FieldMissing, WrongTag, WrongLength}
 use Rattle.outcome.specs.declared.Status.{Status}
 use Rattle.outcome.specs.declared.Status.the-variants.{Accepted}
-use Rattle.outcome.specs.Laws.{check-accepted, check-then}
+use Rattle.outcome.specs.Laws.{check-accepted, first-left, first-right}
 use Rattle.buffer.specs.Buffer.{onto}
 use Rattle.buffer.specs.Laws.{part, put}
 use Rattle.buffer.specs.WroteLaws.{onto-two}
-use Rattle.bigendian.specs.Number.{be, bytes, Bytes}
+use Rattle.bigendian.specs.Number.{bytes, Bytes}
 use Rattle.bigendian.specs.NumberLaws.{be-bytes, length-bytes, bytes-of, bytes-drop}
 use Rattle.fields.specs.Field.{lengthAt, lengthSize, header, headerSize, field, tagOf, lengthOf, valueOf, afterField, fieldStatus}
 
@@ -47,6 +45,23 @@ field-stored tag v out l h e =
     sym (drop-drop (length v) headerSize o) ∙ drop-drop (length v) headerSize out in
     sets-eq v l headerSize h ∙ rw (e, d, k)
 
+-- ---- what a field has that is not refused, in whatever order it is tested
+
+record Whole (tag len : ℕ) (s : List ℕ) : Type 0 where
+  started : headerSize ≤ length s
+  tag-is : tagOf s ≡ tag
+  length-is : lengthOf s ≡ len
+  held : len ≤ length s - headerSize
+
+module _ (tag len : ℕ) (s : List ℕ) where
+  whole : fieldStatus tag len s ≡ Accepted → Whole tag len s
+  unfolding fieldStatus
+  whole e = search (first-left, first-right, check-accepted, leb-true, eqb-true)
+
+  passes : Whole tag len s → fieldStatus tag len s ≡ Accepted
+  unfolding fieldStatus
+  passes w = search (le-leb, eq-eqb)
+
 -- ---- a field that was written, with what follows it
 
 module _ (tag : ℕ) (v r : List ℕ) where
@@ -55,51 +70,29 @@ module _ (tag : ℕ) (v r : List ℕ) where
   field-value = refl
 
   pub field-after : (len : ℕ) → length v ≡ len → afterField len (field tag v ++ r) ≡ r
-  field-after len e = sym (drop-drop len headerSize (field tag v ++ r)) ∙ rw (field-value, drop-at v r len e)
+  field-after len e = drop-at (field tag v) r (headerSize + len) (length-field tag v ∙ rw e)
 
   pub field-accepted : (len : ℕ) → length v ≡ len → len < 256 ^ lengthSize → fieldStatus tag len (field tag v ++ r) ≡ Accepted
-  unfolding field bytes fieldStatus
-  field-accepted len e h = passes _ _ (v ++ r) (be-bytes lengthSize (length v) (omega arith) ∙ e) (omega (arith, length-append v r))
-    where
-      passes : (x y : ℕ) (q : List ℕ) → be (x ∷ y ∷ []) ≡ len → len ≤ length q → fieldStatus tag len (tag ∷ x ∷ y ∷ q) ≡ Accepted
-      passes x y q b m =
-          rw (
-            le-leb headerSize (suc (suc (suc (length q)))) (omega arith),
-            eq-eqb tag tag refl,
-            eq-eqb (be (x ∷ y ∷ [])) len b,
-            le-leb len (suc (suc (suc (length q))) - headerSize) (omega arith),
-          )
+  unfolding field bytes
+  field-accepted len e h =
+      passes tag len (field tag v ++ r)
+      (record {
+        started = omega arith;
+        tag-is = refl;
+        length-is = be-bytes lengthSize (length v) (omega arith) ∙ e;
+        held = omega (arith, length-append v r);
+      })
 
 -- ---- a field that is not refused
 
 module _ (tag len : ℕ) (s : List ℕ) (accepted : fieldStatus tag len s ≡ Accepted) where
-  record Whole : Type 0 where
-    tag-is : tagOf s ≡ tag
-    length-is : lengthOf s ≡ len
-    room : headerSize + len ≤ length s
-
-  whole : Whole
-  unfolding fieldStatus
-  whole =
-      let w1 = check-then (leb headerSize (length s)) FieldMissing _ accepted in
-      let w2 = check-then (eqb (tagOf s) tag) WrongTag _ (w1 .1) in
-      let w3 = check-then (eqb (lengthOf s) len) WrongLength _ (w2 .1) in
-      record {
-        tag-is = eqb-true _ _ (w2 .0);
-        length-is = eqb-true _ _ (w3 .0);
-        room = omega (arith, leb-true headerSize (length s) (w1 .0), leb-true len (length s - headerSize) (check-accepted _ _ (w3 .1)));
-      }
-
-  pub field-room : headerSize + len ≤ length s
-  field-room = whole .room
-
   pub value-room : len ≤ length (valueOf s)
-  value-room = simp length-drop (omega (arith, field-room))
+  value-room = simp length-drop (whole tag len s accepted .held)
 
   pub field-is : Bytes s → field tag (take len (valueOf s)) ++ afterField len s ≡ s
   unfolding field
   field-is bs =
-      let w = whole in
+      let w = whole tag len s accepted in
       let d : lengthSize ≤ length (drop lengthAt s) = simp length-drop (omega arith) in
       let b : bytes lengthSize len ≡ take lengthSize (drop lengthAt s) = rw (← (w .length-is)) (bytes-of lengthSize (drop lengthAt s) (bytes-drop lengthAt bs) d) in
       rw (
@@ -122,7 +115,7 @@ module _ (tag len : ℕ) (s : List ℕ) (accepted : fieldStatus tag len s ≡ Ac
 
 -- where it stands in the whole input; x is what was answered for it
 pub field-room-at : (tag len : ℕ) (s : List ℕ) (at : ℕ) {x : Status} → x ≡ fieldStatus tag len (drop at s) → x ≡ Accepted → at + (headerSize + len) ≤ length s
-field-room-at tag len s at e g = omega (arith, rw (length-drop at s) at (field-room tag len (drop at s) (sym e ∙ g)))
+field-room-at tag len s at e g = omega (arith, length-drop at s, whole tag len (drop at s) (sym e ∙ g))
 
 pub value-at : (s : List ℕ) (at : ℕ) → drop (at + headerSize) s ≡ valueOf (drop at s)
 value-at s at = sym (drop-drop headerSize at s)

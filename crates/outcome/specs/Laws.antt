@@ -36,19 +36,18 @@ same-refusal q r e = sym (refusal-of-number q) ∙ ap (λ s. refusalOf (s .numbe
 
 -- ---- checks
 
+-- what passed, one by one, for a search that runs these forwards
 pub check-accepted : (b : Bool) (r : Refusal) → check b r ≡ Accepted → b ≡ true
 check-accepted true r e = refl
-check-accepted false r e = not-both (Refused r) r refl e
+check-accepted false r e = cc
 
-pub first-accepted : (s t : Status) → first s t ≡ Accepted → (s ≡ Accepted) × (t ≡ Accepted)
-first-accepted Accepted t e = (refl, e)
-first-accepted (Refused r) t e = not-both (Refused r) r refl e
+pub first-left : (s t : Status) → first s t ≡ Accepted → s ≡ Accepted
+first-left Accepted t e = refl
+first-left (Refused r) t e = e
 
-pub check-then : (b : Bool) (r : Refusal) (t : Status) → first (check b r) t ≡ Accepted → (b ≡ true) × (t ≡ Accepted)
-check-then b r t e = let w = first-accepted (check b r) t e in (check-accepted b r (w .0), w .1)
-
-pub first-check : (s : Status) (b : Bool) (r : Refusal) → first s (check b r) ≡ Accepted → (s ≡ Accepted) × (b ≡ true)
-first-check s b r e = let w = first-accepted s (check b r) e in (w .0, check-accepted b r (w .1))
+pub first-right : (s t : Status) → first s t ≡ Accepted → t ≡ Accepted
+first-right Accepted t e = e
+first-right (Refused r) t e = cc
 
 -- what a check that passed makes of the first of two
 pub first-goes-on : (s t : Status) → s ≡ Accepted → t ≡ first s t

@@ -4,7 +4,7 @@ use Prim.Native.Nat.{ℕ, _+_, _^_, _≤_, _<_}
 use mathlib.Core.Bool.{Bool, true, _&&_}
 use mathlib.Core.List.{List}
 use native.Mathlib.Omega.{arith}
-use mathlib.Core.Path.{_≡_, refl, _∙_}
+use mathlib.Core.Path.{_≡_, refl}
 use lib.ListN.{length, drop}
 use lib.Seq.{drop-drop}
 use lib.IntN.{ℤ}
@@ -21,7 +21,6 @@ use Rattle.casefile.specs.Layout.{tolerancesAt, rightSideAt, rightToleranceAt, 
 use Rattle.casefile.specs.Decode.{rowOf, rowDue, rowStatus}
 use Rattle.casefile.specs.DueLaws.{Checked, checked}
 use Rattle.casefile.specs.AnswerLaws.{answer-stops, answer-goes-on, run-at}
-use Rattle.casefile.specs.RowLaws.{at-right-side, at-right-tolerance}
 use borrow.Author.Needs.{needs}
 use Rattle.row_reader.proofs.read_row.Statement.{statement}
 use Rattle.row_reader.proofs.read_row.Tie as tie
@@ -95,8 +94,8 @@ returns-2 c =
     (row-answered (g .n) (value h)
     (run-at i16 _ (value-at (s h) (g .at)) (l .la) (w1 .read-i16s .ensures))
     (run-at u16 _ (in-value (s h) (g .at) (tolerancesAt (g .n)) (q .0 .tolerances)) (l .lt) (w2 .read-u16s .ensures))
-    (run-at i32 _ (in-value (s h) (g .at) (rightSideAt (g .n)) (q .0 .right-side) ∙ at-right-side (g .n) (value h)) (l .lb) (w3 .read-i32s .ensures))
-    (run-at u32 _ (in-value (s h) (g .at) (rightToleranceAt (g .n)) (q .0 .right-tolerance) ∙ at-right-tolerance (g .n) (value h)) (l .lf) (w4 .read-u32s .ensures)))
+    (run-at i32 _ (in-value (s h) (g .at) (rightSideAt (g .n)) (q .0 .right-side)) (l .lb) (w3 .read-i32s .ensures))
+    (run-at u32 _ (in-value (s h) (g .at) (rightToleranceAt (g .n)) (q .0 .right-tolerance)) (l .lf) (w4 .read-u32s .ensures)))
     (c .check .ensures)
 
 pub read-row-spec : {M : Type 1} → statement M
