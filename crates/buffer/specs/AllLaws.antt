@@ -1,7 +1,7 @@
 -- Tests of every element of a list: of its parts, of two lists put together, and at every place. Assumes nothing.
-use mathlib.Core.Path.{_≡_, refl}
+use mathlib.Core.Path.{_≡_, refl, sym}
 use mathlib.Core.List.{List, [], _∷_, _++_}
-use mathlib.Core.Bool.{Bool, true, false, false≢true, _&&_}
+use mathlib.Core.Bool.{Bool, true, false, false≢true, _&&_, and-assoc}
 use Prim.Native.Nat.{ℕ, zero, suc}
 use lib.ListN.{getD, take, drop}
 use Rattle.buffer.specs.Buffer.{all}
@@ -19,10 +19,13 @@ module _ (a b : Bool) (e : (a && b) ≡ true) where
   and-right = and-true a b e .1
 
 module _ {X : Type 0} (p : X → Bool) where
-  pub all-append : (a b : List X) → all p a ≡ true → all p b ≡ true → all p (a ++ b) ≡ true
+  pub all-both : (a b : List X) → all p (a ++ b) ≡ (all p a && all p b)
   unfolding all
-  all-append [] b e g = g
-  all-append (x ∷ a) b e g = let w = and-true (p x) (all p a) e in rw (w .0, all-append a b (w .1) g)
+  all-both [] b = refl
+  all-both (x ∷ a) b = rw (all-both a b) (sym (and-assoc (p x) (all p a) (all p b)))
+
+  pub all-append : (a b : List X) → all p a ≡ true → all p b ≡ true → all p (a ++ b) ≡ true
+  all-append a b e g = rw (all-both a b, e) g
 
   pub all-take : (n : ℕ) (l : List X) → all p l ≡ true → all p (take n l) ≡ true
   unfolding all

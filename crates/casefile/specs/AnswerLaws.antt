@@ -9,7 +9,7 @@ use Rattle.outcome.specs.declared.Status.{Status}
 use Rattle.outcome.specs.declared.Status.the-variants.{Accepted, Refused}
 use Rattle.outcome.specs.Outcome.{check, first}
 use Rattle.outcome.specs.Laws.{stops, first-goes-on, not-both, check-accepted}
-use Rattle.figures.specs.Figures.{Kind, figures, Answered, RunAnswered}
+use Rattle.figures.specs.Figures.{Kind, figures, Answered, RunRead}
 
 module _ {A : Type 0} {value out : A} {x s : Status} (e : x ≡ s) where
   -- the field is refused
@@ -24,5 +24,5 @@ module _ {A : Type 0} {value out : A} {x s : Status} (e : x ≡ s) where
 
 -- the bytes from the place on are v
 pub run-at : {X : Type 0} (k : Kind X) (f : X → Bool) {u v : List ℕ} {m n : ℕ} {exit : List X} {r : Bool} → u ≡ v → m ≡ n
-    → RunAnswered f (figures k m u) r exit → RunAnswered f (figures k n v) r exit
+    → RunRead f (figures k m u) r exit → RunRead f (figures k n v) r exit
 run-at k f e g h = rw (e, g) at h

@@ -1,6 +1,6 @@
 -- Kinds of figures, and runs of figures of one kind as bytes.
 use Prim.Native.Nat.{ℕ, zero, suc, _*_}
-use mathlib.Core.Bool.{Bool, true}
+use mathlib.Core.Bool.{Bool}
 use mathlib.Core.List.{List, [], _∷_}
 use mathlib.Core.Path.{_≡_}
 use lib.ListN.{length, take, drop}
@@ -86,10 +86,11 @@ pub record Answered {S A : Type 0} (yes due : S) (value : A) (r : S) (out : A) :
   pub status : r ≡ due
   pub made : r ≡ yes → out ≡ value
 
--- what is answered of a run of figures: whether all pass the test and, where they do, the figures in out
-abbrev pub RunAnswered : {X : Type 0} → (X → Bool) → List X → Bool → List X → Type 0
-RunAnswered f l r out = Answered true (all f l) l r out
+-- what is answered of a run of figures: whether all pass the test, and the figures in out, whether they do or not
+pub record RunRead {X : Type 0} (f : X → Bool) (l : List X) (r : Bool) (out : List X) : Type 0 where
+  pub status : r ≡ all f l
+  pub made : out ≡ l
 
 -- the same of reading as many figures as out has places, from the front of v
 abbrev pub Read : {X : Type 0} → Kind X → (X → Bool) → List ℕ → List X → Bool → List X → Type 0
-Read k f v entry r exit = RunAnswered f (figures k (length entry) v) r exit
+Read k f v entry r exit = RunRead f (figures k (length entry) v) r exit

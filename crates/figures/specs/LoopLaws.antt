@@ -3,13 +3,13 @@
 -- Assumes nothing.
 use mathlib.Core.Path.{_≡_, refl, sym, _∙_}
 use mathlib.Core.List.{List, [], _∷_, _++_, append-nil}
-use mathlib.Core.Bool.{Bool, true, false, false≢true}
+use mathlib.Core.Bool.{Bool, true, _&&_, and-true}
 use Prim.Native.Nat.{ℕ, suc, _+_, _*_, _-_, _^_, _≤_, _<_}
 use native.Mathlib.Omega.{arith}
 use native.Mathlib.Nat.{mul-suc, sub-zero}
 use native.Mathlib.Numerals.{add-one}
-use lib.ListN.{length, getD, take, drop, set, length-set, drop-of-length-le}
-use lib.Seq.{drop-cons, drop-drop, take-suc-set, append-snoc, take-all}
+use lib.ListN.{length, getD, take, drop, set, length-set}
+use lib.Seq.{drop-drop, take-suc, take-suc-set, append-snoc, take-all}
 use lib.Signed.{mag}
 use lib.Dec.{T, leb}
 use lib.IntN.{ℤ, natAbs}
@@ -17,16 +17,19 @@ use mir.Syntax.{Width, w64}
 use mir.Val.{hbits, toZ, ofZ}
 use Rattle.integers.specs.Signed.{wide-is}
 use Rattle.buffer.specs.Buffer.{onto, run, all}
+use Rattle.buffer.specs.AllLaws.{all-both}
 use Rattle.buffer.specs.RunLaws.{joined-run, Running, run-joined}
-use Rattle.figures.specs.Figures.{Kind, upTo, within, items, figureAt, figures, figureBytes, spread, Read}
-
-pub impossible : {P : Type 0} → false ≡ true → P
-impossible e = absurd (false≢true e)
+use Rattle.figures.specs.Figures.{Kind, upTo, within, items, figureAt, figureBytes, spread, Read}
 
 -- the test of a signed figure of a width, whose size was found in 64 bits
-pub tested : (w : Width) → T (leb (hbits w) (hbits w64)) → (z : ℤ) → mag z < 2 ^ hbits w → (limit : ℕ) {m : ℕ} {b : Bool}
-    → m ≡ natAbs (toZ w64 (ofZ w64 (toZ w (ofZ w z)))) → upTo limit m ≡ b → within limit z ≡ b
-tested w narrow z h limit e g = rw (e, wide-is w narrow z (record { sfits = h })) at g
+pub tested : (w : Width) → T (leb (hbits w) (hbits w64)) → (z : ℤ) → mag z < 2 ^ hbits w → (limit : ℕ) {m : ℕ}
+    → m ≡ natAbs (toZ w64 (ofZ w64 (toZ w (ofZ w z)))) → upTo limit m ≡ within limit z
+tested w narrow z h limit e = rw (e, wide-is w narrow z (record { sfits = h }))
+
+-- a test of one element more
+all-more : {X : Type 0} (f : X → Bool) (l : List X) (x : X) → all f (l ++ (x ∷ [])) ≡ (all f l && f x)
+unfolding all
+all-more f l x = rw (all-both f l (x ∷ []), and-true (f x))
 
 -- what is left is the next one, and what is left behind it
 left : (n i : ℕ) → i < n → n - i ≡ suc (n - (i + 1))
@@ -63,19 +66,21 @@ module _ {A S : Type 0} {w : ℕ} {item : List ℕ → A} {answer : ℕ → List
     unfolding items
     ended h = let m : n - i ≡ 0 = omega arith in (rw m at (r .status), sym (append-nil done) ∙ rw m at (r .made))
 
--- ---- reading as many figures as out has places
+-- ---- reading as many figures as out has places: the items, whose answer is nothing here, and the flag of those that are done
 
 module _ {X : Type 0} (k : Kind X) (f : X → Bool) (s : List ℕ) (at : ℕ) (out₀ : List X) where
-  pub record ReadingFigures (out : List X) (i p : ℕ) : Type 0 where
+  pub record ReadingFigures (fine : Bool) (out : List X) (i p : ℕ) : Type 0 where
     pub room : p + k .width * (length out₀ - i) ≤ length s
     pub same : length out ≡ length out₀
-    pub read : ReadingItems (k .width) (figureAt k) (λ m v. all f (figures k m v)) (length out₀) s at (take i out) i p
+    read : ReadingItems (k .width) (figureAt k) (λ m v. tt {0}) (length out₀) s at (take i out) i p
+    flag : fine ≡ all f (take i out)
 
 module _ {X : Type 0} {k : Kind X} {f : X → Bool} {s : List ℕ} {at : ℕ} {out₀ : List X} where
-  pub read-begun : at + k .width * length out₀ ≤ length s → ReadingFigures k f s at out₀ out₀ 0 at
-  read-begun h = record { room = rw (sub-zero (length out₀)) h; same = refl; read = begun }
+  pub read-begun : at + k .width * length out₀ ≤ length s → ReadingFigures k f s at out₀ true out₀ 0 at
+  unfolding all
+  read-begun h = record { room = rw (sub-zero (length out₀)) h; same = refl; read = begun; flag = refl }
 
-  module _ {out : List X} {i p : ℕ} (r : ReadingFigures k f s at out₀ out i p) where
+  module _ {fine : Bool} {out : List X} {i p : ℕ} (r : ReadingFigures k f s at out₀ fine out i p) where
     -- the next figure has its bytes, and what is left has its own
     after-next : i < length out → p + k .width + k .width * (length out₀ - (i + 1)) ≤ length s
     after-next h =
@@ -84,48 +89,42 @@ module _ {X : Type 0} {k : Kind X} {f : X → Bool} {s : List ℕ} {at : ℕ} {o
     pub read-next : i < length out → p + k .width ≤ length s
     read-next h = omega (arith, after-next h)
 
-    -- the next figure is x: refused, or set
-    pub read-stopped : {exit : List X} {x : X} → i < length out → x ≡ figureAt k (drop p s) → f x ≡ false → Read k f (drop at s) out₀ false exit
-    unfolding all items
-    read-stopped h e t = record { status = stopped (r .read) (omega (arith, r .same)) (λ m. rw (← e, t)); made = λ e. impossible e }
-
-    pub read-turn : {x : X} → i < length out → x ≡ figureAt k (drop p s) → f x ≡ true → ReadingFigures k f s at out₀ (set out i x) (i + 1) (p + k .width)
-    unfolding all items
-    read-turn {x} h e t =
+    -- the next figure is x, and t its test
+    pub read-turn : {x : X} {t : Bool} → i < length out → x ≡ figureAt k (drop p s) → t ≡ f x
+        → ReadingFigures k f s at out₀ (fine && t) (set out i x) (i + 1) (p + k .width)
+    read-turn {x} h e g =
+        let more : take (i + 1) (set out i x) ≡ take i out ++ (x ∷ []) = rw (add-one i) (take-suc-set out i x h) in
         record {
           room = after-next h;
           same = length-set out i x ∙ r .same;
-          read = rw (add-one i, take-suc-set out i x h, ← (add-one i), e) (turn (r .read) (omega (arith, r .same)) (λ m. rw (← e, t)));
+          read = rw (more, e) (turn (r .read) (omega (arith, r .same)) (λ m. refl));
+          flag = rw (more, all-more f (take i out) x, r .flag, g);
         }
 
-    pub read-ended : length out ≤ i → Read k f (drop at s) out₀ true out
-    unfolding all items
+    pub read-ended : length out ≤ i → Read k f (drop at s) out₀ fine out
     read-ended h =
-        let w = ended (r .read) (omega (arith, r .same)) in
-        record { status = w .0; made = λ _. sym (take-all i out h) ∙ w .1 }
+        let whole = take-all i out h in
+        let made = sym whole ∙ ended (r .read) (omega (arith, r .same)) .1 in
+        record { status = r .flag ∙ rw (whole, made); made = made }
 
--- ---- testing each element of a list
+-- ---- testing each element of a list: the flag of those that are done
 
 module _ {X : Type 0} (f : X → Bool) (l : List X) where
-  pub record Testing (i : ℕ) : Type 0 where
+  pub record Testing (fine : Bool) (i : ℕ) : Type 0 where
     pub inside : i ≤ length l
-    pub test : all f (drop i l) ≡ all f l
+    flag : fine ≡ all f (take i l)
 
 module _ {X : Type 0} {f : X → Bool} {l : List X} where
-  pub test-begun : Testing f l 0
-  test-begun = record { inside = omega arith; test = refl }
-
-  pub test-stopped : (d : X) {i : ℕ} → Testing f l i → i < length l → f (getD l i d) ≡ false → false ≡ all f l
+  pub test-begun : Testing f l true 0
   unfolding all
-  test-stopped d {i} r h t = rw (drop-cons l i d h, t) at (r .test)
+  test-begun = record { inside = omega arith; flag = refl }
 
-  pub test-turn : (d : X) {i : ℕ} → Testing f l i → i < length l → f (getD l i d) ≡ true → Testing f l (i + 1)
-  unfolding all
-  test-turn d {i} r h t = record { inside = omega arith; test = rw (add-one i) (rw (drop-cons l i d h, t) at (r .test)) }
+  module _ {fine : Bool} {i : ℕ} (r : Testing f l fine i) where
+    pub test-turn : (d : X) {t : Bool} → i < length l → t ≡ f (getD l i d) → Testing f l (fine && t) (i + 1)
+    test-turn d h g = record { inside = omega arith; flag = rw (add-one i, take-suc l i d h, all-more f (take i l) (getD l i d), r .flag, g) }
 
-  pub test-ended : {i : ℕ} → Testing f l i → length l ≤ i → true ≡ all f l
-  unfolding all
-  test-ended {i} r h = rw (drop-of-length-le l h) at (r .test)
+    pub test-ended : length l ≤ i → fine ≡ all f l
+    test-ended h = r .flag ∙ rw (take-all i l h)
 
 -- ---- writing a list of figures over the front of a buffer
 

@@ -1,5 +1,6 @@
 // Runs of figures of one kind: read with a test of their limits, tested, and written.
-// One law over the kind of figure stands behind the loops of each of the three.
+// One law over the kind of figure stands behind the loops of each of the three. No loop ends early: it has one way out, and what it leaves is known
+// for every input.
 ghost use mathlib.Core.Path.{_≡_};
 ghost use Prim.Native.Nat.{_+_, _*_, _≤_};
 ghost use lib.ListN.{length, drop};
@@ -8,78 +9,74 @@ ghost use Rattle.figures.specs.Figures.{i16, u16, i32, u32, upTo, within
 use bigendian::SIZE_16;
 use bigendian::SIZE_32;
 
-// Reading: as many figures as out has places, from a place of s on. It says whether all are within the limit; where one is not, what out holds is left open.
+// Reading: as many figures as out has places, from a place of s on, within the limit or not; the answer says whether all are within it.
 
 pub fn read_i16s(s: &[u8], at: usize, limit: u64, out: &mut [i16]) -> bool
     requires { ⌜ at + i16 .width * length (now out) ≤ length (now s) ⌝ }
     ensures { λ r. ⌜ Read i16 (within limit) (drop at (now (s .entry))) (now (out .entry)) r (now (out .exit)) ⌝ }
 {
+    let mut fine = true;
     let mut i = 0;
     let mut p = at;
     while i < out.len() {
         let x = bigendian::read_i16(s, p);
-        if limit < integers::magnitude(x as i64) {
-            return false;
-        }
         out[i] = x;
+        fine = fine & (integers::magnitude(x as i64) <= limit);
         i += 1;
         p += SIZE_16;
     }
-    true
+    fine
 }
 
 pub fn read_u16s(s: &[u8], at: usize, limit: u64, out: &mut [u16]) -> bool
     requires { ⌜ at + u16 .width * length (now out) ≤ length (now s) ⌝ }
     ensures { λ r. ⌜ Read u16 (upTo limit) (drop at (now (s .entry))) (now (out .entry)) r (now (out .exit)) ⌝ }
 {
+    let mut fine = true;
     let mut i = 0;
     let mut p = at;
     while i < out.len() {
         let x = bigendian::read_u16(s, p);
-        if limit < x as u64 {
-            return false;
-        }
         out[i] = x;
+        fine = fine & (x as u64 <= limit);
         i += 1;
         p += SIZE_16;
     }
-    true
+    fine
 }
 
 pub fn read_i32s(s: &[u8], at: usize, limit: u64, out: &mut [i32]) -> bool
     requires { ⌜ at + i32 .width * length (now out) ≤ length (now s) ⌝ }
     ensures { λ r. ⌜ Read i32 (within limit) (drop at (now (s .entry))) (now (out .entry)) r (now (out .exit)) ⌝ }
 {
+    let mut fine = true;
     let mut i = 0;
     let mut p = at;
     while i < out.len() {
         let x = bigendian::read_i32(s, p);
-        if limit < integers::magnitude(x as i64) {
-            return false;
-        }
         out[i] = x;
+        fine = fine & (integers::magnitude(x as i64) <= limit);
         i += 1;
         p += SIZE_32;
     }
-    true
+    fine
 }
 
 pub fn read_u32s(s: &[u8], at: usize, limit: u64, out: &mut [u32]) -> bool
     requires { ⌜ at + u32 .width * length (now out) ≤ length (now s) ⌝ }
     ensures { λ r. ⌜ Read u32 (upTo limit) (drop at (now (s .entry))) (now (out .entry)) r (now (out .exit)) ⌝ }
 {
+    let mut fine = true;
     let mut i = 0;
     let mut p = at;
     while i < out.len() {
         let x = bigendian::read_u32(s, p);
-        if limit < x as u64 {
-            return false;
-        }
         out[i] = x;
+        fine = fine & (x as u64 <= limit);
         i += 1;
         p += SIZE_32;
     }
-    true
+    fine
 }
 
 // Testing: whether every figure of the list is within the limit.
@@ -87,53 +84,49 @@ pub fn read_u32s(s: &[u8], at: usize, limit: u64, out: &mut [u32]) -> bool
 pub fn all_i16(a: &[i16], limit: u64) -> bool
     ensures { λ r. ⌜ r ≡ allWithin limit (now (a .entry)) ⌝ }
 {
+    let mut fine = true;
     let mut i = 0;
     while i < a.len() {
-        if limit < integers::magnitude(a[i] as i64) {
-            return false;
-        }
+        fine = fine & (integers::magnitude(a[i] as i64) <= limit);
         i += 1;
     }
-    true
+    fine
 }
 
 pub fn all_u16(a: &[u16], limit: u64) -> bool
     ensures { λ r. ⌜ r ≡ allUpTo limit (now (a .entry)) ⌝ }
 {
+    let mut fine = true;
     let mut i = 0;
     while i < a.len() {
-        if limit < a[i] as u64 {
-            return false;
-        }
+        fine = fine & (a[i] as u64 <= limit);
         i += 1;
     }
-    true
+    fine
 }
 
 pub fn all_i32(a: &[i32], limit: u64) -> bool
     ensures { λ r. ⌜ r ≡ allWithin limit (now (a .entry)) ⌝ }
 {
+    let mut fine = true;
     let mut i = 0;
     while i < a.len() {
-        if limit < integers::magnitude(a[i] as i64) {
-            return false;
-        }
+        fine = fine & (integers::magnitude(a[i] as i64) <= limit);
         i += 1;
     }
-    true
+    fine
 }
 
 pub fn all_u32(a: &[u32], limit: u64) -> bool
     ensures { λ r. ⌜ r ≡ allUpTo limit (now (a .entry)) ⌝ }
 {
+    let mut fine = true;
     let mut i = 0;
     while i < a.len() {
-        if limit < a[i] as u64 {
-            return false;
-        }
+        fine = fine & (a[i] as u64 <= limit);
         i += 1;
     }
-    true
+    fine
 }
 
 // Writing: the figures of the list, over the front of out.

@@ -61,7 +61,7 @@ returns-3 c =
     let q = run-at trialKind _ there (taken k) (w .read-i32s .ensures) in
     rw (k .before .before .if1 .left)
     (answer-goes-on (field k .is) OutsideLimits (w .before .before .before .enum-told2 .given .1)
-    (record { status = q .status; made = λ e. rw (q .made e, length-items _ _ (g .n) (valueOf (drop (rowsEnd (g .n)) (now (g .s))))) }) (c .check .ensures))
+    (record { status = q .status; made = λ _. rw (q .made, length-items _ _ (g .n) (valueOf (drop (rowsEnd (g .n)) (now (g .s))))) }) (c .check .ensures))
 
 pub read-trial-spec : {M : Type 1} → statement M
 read-trial-spec =

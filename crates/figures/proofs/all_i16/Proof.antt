@@ -2,32 +2,30 @@
 -- Assumes nothing.
 use Prim.Native.Nat.{_-_}
 use native.Mathlib.Omega.{arith}
-use borrow.Author.Tests.{le-leb, lt-leb}
 use lib.IntN.{ℤ, pos}
 use denote.Ref.{now}
 use lib.ListN.{length, getD}
 use mir.Syntax.{w16}
 use Rattle.integers.specs.Signed.{wide-fits}
 use Rattle.figures.specs.Figures.{within}
-use Rattle.figures.specs.LoopLaws.{tested, Testing, test-begun, test-stopped, test-turn, test-ended}
+use Rattle.figures.specs.LoopLaws.{tested, Testing, test-begun, test-turn, test-ended}
 use Rattle.figures.proofs.all_i16.Statement.{statement}
 use Rattle.figures.proofs.all_i16.Tie as tie
 
 abbrev Inv-loop : tie.InvT-loop
-Inv-loop a limit i₀ i = Testing (within limit) a i
+Inv-loop a limit fine₀ i₀ fine i = Testing (within limit) a fine i
 
 abbrev μ-loop : tie.MeasureT-loop
-μ-loop a limit i₀ i = length a - i
+μ-loop a limit fine₀ i₀ fine i = length a - i
 
 -- the figure that is tested
 abbrev figure : tie.After-magnitude-arg Inv-loop μ-loop → ℤ
 figure c = getD (now (c .before .before .before .args .a)) (c .before .before .loop .i) (pos 0)
 
-returns : tie.Need-returns Inv-loop μ-loop
-returns c = test-stopped (pos 0) (c .before .before .before .before .loop .inv) (c .before .before .before .loop-test .taken) (tested w16 tt (figure (c .before .before)) (c .before .before .magnitude-arg .given) _ (c .before .magnitude .ensures) (lt-leb _ _ (c .if1 .taken)))
-
 loop-again : tie.Need-loop-again Inv-loop μ-loop
-loop-again c = test-turn (pos 0) (c .before .before .before .before .loop .inv) (c .before .before .before .loop-test .taken) (tested w16 tt (figure (c .before .before)) (c .before .before .magnitude-arg .given) _ (c .before .magnitude .ensures) (le-leb _ _ (c .if1 .left)))
+loop-again c =
+    let x = c .before in
+    test-turn (x .before .before .loop .inv) (pos 0) (x .before .loop-test .taken) (tested w16 tt (figure x) (x .magnitude-arg .given) _ (c .magnitude .ensures))
 
 pub all-i16-spec : {M : Type 1} → statement M
 all-i16-spec =
@@ -40,7 +38,6 @@ all-i16-spec =
     (λ c. omega arith)
     (λ c. wide-fits w16 tt (figure c) (record { sfits = c .magnitude-arg .given }))
     (λ c κs. tt)
-    returns
     (λ c. omega arith)
     (λ c. omega arith)
     loop-again

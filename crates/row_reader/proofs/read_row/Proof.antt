@@ -10,8 +10,7 @@ use lib.Seq.{drop-drop}
 use lib.IntN.{ℤ}
 use denote.Ref.{now}
 use Rattle.outcome.specs.declared.Refusal.the-variants.{OutsideLimits}
-use Rattle.buffer.specs.AllLaws.{and-left, and-right}
-use Rattle.figures.specs.Figures.{i16, u16, i32, u32, within, upTo, Answered, RunAnswered}
+use Rattle.figures.specs.Figures.{i16, u16, i32, u32, within, upTo, Answered, RunRead}
 use Rattle.fields.specs.Field.{headerSize, valueOf}
 use Rattle.fields.specs.FieldLaws.{value-at}
 use Rattle.limits.specs.Limits.{coefficientLimit, toleranceLimit, rightSideLimit, rightToleranceLimit}
@@ -26,14 +25,14 @@ use Rattle.row_reader.proofs.read_row.Statement.{statement}
 use Rattle.row_reader.proofs.read_row.Tie as tie
 
 -- four runs of figures, each with its test, are a row with its own
-row-answered : (n : ℕ) (v : List ℕ) {a b : List ℤ} {t f : List ℕ} {b1 b2 b3 b4 : Bool} → let r = rowOf n v in
-    RunAnswered (within coefficientLimit) (r .coefficients) b1 a
-    → RunAnswered (upTo toleranceLimit) (r .tolerances) b2 t
-    → RunAnswered (within rightSideLimit) (r .right-sides) b3 b
-    → RunAnswered (upTo rightToleranceLimit) (r .right-tolerances) b4 f
+row-answered : (r : Block) {a b : List ℤ} {t f : List ℕ} {b1 b2 b3 b4 : Bool}
+    → RunRead (within coefficientLimit) (r .coefficients) b1 a
+    → RunRead (upTo toleranceLimit) (r .tolerances) b2 t
+    → RunRead (within rightSideLimit) (r .right-sides) b3 b
+    → RunRead (upTo rightToleranceLimit) (r .right-tolerances) b4 f
     → Answered true (rowsFine r) r (b1 && (b2 && (b3 && b4))) (block a t b f)
 unfolding rowsFine
-row-answered n v w1 w2 w3 w4 = record { status = search; made = λ h. search (and-left, and-right, w1 .made, w2 .made, w3 .made, w4 .made) }
+row-answered r w1 w2 w3 w4 = search (w1 .made, w2 .made, w3 .made, w4 .made)
 
 -- a place of the field's value
 in-value : (s : List ℕ) (at q : ℕ) {p : ℕ} → p ≡ q → drop (at + headerSize + p) s ≡ drop q (valueOf (drop at s))
@@ -91,7 +90,7 @@ returns-2 c =
     let q = known told in
     let l = q .2 .counts in
     answer-goes-on (field h .is) OutsideLimits (told .enum-told2 .given .1)
-    (row-answered (g .n) (value h)
+    (row-answered (rowOf (g .n) (value h))
     (run-at i16 _ (value-at (s h) (g .at)) (l .la) (w1 .read-i16s .ensures))
     (run-at u16 _ (in-value (s h) (g .at) (tolerancesAt (g .n)) (q .0 .tolerances)) (l .lt) (w2 .read-u16s .ensures))
     (run-at i32 _ (in-value (s h) (g .at) (rightSideAt (g .n)) (q .0 .right-side)) (l .lb) (w3 .read-i32s .ensures))
