@@ -51,7 +51,7 @@ fn read_trial(s: &[u8], rounds: usize, n: usize, y: &mut [i32]) -> Status
         return Status::Accepted;
     }
     let places = casefile::tail_places(rounds, n);
-    let field = fields::check_field(s, places.trial, casefile::TRIAL_TAG, places.len);
+    let field = fields::check_field(s, places.trial, casefile::TRIAL_TAG, places.trial_len);
     if let Status::Refused(_) = field {
         return field;
     }

@@ -53,7 +53,7 @@ pub fn read_and_write(s: &[u8], out: &mut [u8]) -> Outcome
     let rounds = case.rounds;
     let square = n * n;
     let tail = casefile::tail_places(rounds, n);
-    let brought = tail.count;
+    let brought = tail.trial_count;
     let coefficients = case.coefficients;
     let tolerances = case.tolerances;
     let right_sides = case.right_sides;

@@ -31,7 +31,8 @@ fn check_case(
     }
     let tail = casefile::tail_places(rounds, n);
     let counted = (a.len() == n * n)
-        & ((t.len() == n * n) & ((b.len() == n) & ((f.len() == n) & (y.len() == tail.count))));
+        & ((t.len() == n * n)
+            & ((b.len() == n) & ((f.len() == n) & (y.len() == tail.trial_count))));
     if !counted {
         return Status::Refused(Refusal::WrongLength);
     }
@@ -50,7 +51,7 @@ fn write_trial(out: &mut [u8], rounds: usize, n: usize, y: &[i32])
 {
     if rounds == 0 {
         let tail = casefile::tail_places(rounds, n);
-        fields::write_header(out, casefile::TRIAL_TAG, tail.len as u16);
+        fields::write_header(out, casefile::TRIAL_TAG, tail.trial_len as u16);
         figures::write_i32s(&mut out[HEADER_SIZE..], y);
     }
 }

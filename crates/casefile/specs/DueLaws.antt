@@ -1,6 +1,6 @@
--- A field that is due, once for the head, a row and the trial: one that was written is read back, one that is not refused is what a writer writes, and
--- where it ends. Assumes nothing.
-use mathlib.Core.Path.{_≡_, refl, ap, _∙_}
+-- A field that is due, once for the head, a row and the trial: one that was written is read back, and one that is not refused is what a writer writes.
+-- Assumes nothing.
+use mathlib.Core.Path.{_≡_, ap, _∙_}
 use mathlib.Core.Bool.{true}
 use mathlib.Core.List.{List, _++_}
 use Prim.Native.Nat.{ℕ, _+_, _^_, _≤_, _<_}
@@ -11,7 +11,7 @@ use Rattle.outcome.specs.Laws.{check-accepted, first-left, first-right}
 use Rattle.bigendian.specs.Number.{Bytes}
 use Rattle.bigendian.specs.NumberLaws.{bytes-drop}
 use Rattle.fields.specs.Field.{lengthSize, headerSize, field, valueOf, afterField, fieldStatus}
-use Rattle.fields.specs.FieldLaws.{field-value, field-after, field-accepted, value-room, field-same, field-room-at}
+use Rattle.fields.specs.FieldLaws.{field-value, field-after, field-accepted, value-room, field-same}
 use Rattle.casefile.specs.Decode.{Due, dueAt, dueStatus}
 
 -- bytes that were written are read back as x, whatever follows them
@@ -36,7 +36,7 @@ module _ {A : Type 0} (d : Due A) where
 
 -- a field that is not refused
 module _ {A : Type 0} (d : Due A) (s : List ℕ) (accepted : dueStatus d s ≡ Accepted) where
-  due-field : fieldStatus (d .tag) (d .len) s ≡ Accepted
+  pub due-field : fieldStatus (d .tag) (d .len) s ≡ Accepted
   due-field = search first-left
 
   pub due-fine : d .fine (dueAt d s) ≡ true
@@ -48,16 +48,3 @@ module _ {A : Type 0} (d : Due A) (s : List ℕ) (accepted : dueStatus d s ≡ A
   due-same bs same =
       let w = same (valueOf s) (bytes-drop headerSize bs) (value-room (d .tag) (d .len) s due-field) in
       field-same (d .tag) (d .len) s due-field bs (d .write (dueAt d s)) (w .0) (w .1)
-
--- where it stands in the whole input
-pub due-room-at : {A : Type 0} (d : Due A) (s : List ℕ) (at : ℕ) → dueStatus d (drop at s) ≡ Accepted → at + (headerSize + d .len) ≤ length s
-due-room-at d s at e = field-room-at (d .tag) (d .len) s at refl (due-field d (drop at s) e)
-
--- the check of a field that is due at a place, by the place and the length that were computed
-pub record Checked {A : Type 0} (d : Due A) (s : List ℕ) (at : ℕ) (x : Status) : Type 0 where
-  pub is : x ≡ fieldStatus (d .tag) (d .len) (drop at s)
-  pub room : x ≡ Accepted → at + (headerSize + d .len) ≤ length s
-
-pub checked : {A : Type 0} (d : Due A) (s : List ℕ) (at : ℕ) {place len : ℕ} {x : Status} → place ≡ at → len ≡ d .len
-    → x ≡ fieldStatus (d .tag) len (drop place s) → Checked d s at x
-checked d s at p l e = let w = rw (p, l) at e in record { is = w; room = field-room-at (d .tag) (d .len) s at w }

@@ -92,8 +92,8 @@ endAt k n = rowsEnd n + trialSize k n
 -- the places, the count and the length of what follows n rows, as the program holds them
 pub record TailPlaced (k n : ℕ) (r : TailPlaces) : Type 0 where
   pub trial : r .trial ≡ rowsEnd n
-  pub count : r .count ≡ trialCount k n
-  pub len : r .len ≡ trialLength n
+  pub trial-count : r .«trial_count» ≡ trialCount k n
+  pub trial-len : r .«trial_len» ≡ trialLength n
   pub end : r .end ≡ endAt k n
 
 -- "The longest case has 388 bytes."

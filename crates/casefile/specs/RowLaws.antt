@@ -18,7 +18,7 @@ use Rattle.limits.specs.Limits.{mostTanks}
 use Rattle.rows.specs.Block.{Block, Counts}
 use Rattle.casefile.specs.Layout.{rowTag, rowLength, rowSize, rightToleranceAt, rowBytes, rowField}
 use Rattle.casefile.specs.Decode.{rowOf, rowAt, rowDue, rowStatus}
-use Rattle.casefile.specs.DueLaws.{DueBack, due-back, due-fine, due-room-at, due-same}
+use Rattle.casefile.specs.DueLaws.{DueBack, due-back, due-fine, due-same}
 use Rattle.casefile.specs.KindLaws.{coefficient-lawful, tolerance-lawful, right-side-lawful, right-tolerance-lawful}
 use Rattle.casefile.specs.SoundLaws.{SoundBlock, counts, sound, sound-fine}
 
@@ -85,8 +85,3 @@ module _ (n : ℕ) (s : List ℕ) (accepted : rowStatus n s ≡ Accepted) where
   pub row-same : Bytes s → rowField (rowAt n s) ++ drop (rowSize n) s ≡ s
   unfolding rowStatus
   row-same bs = due-same (rowDue n) s accepted bs (λ v b h. (length-row (row-counts n v), same v b h))
-
--- where it stands in the whole input
-pub row-room : (n : ℕ) (s : List ℕ) (at : ℕ) → rowStatus n (drop at s) ≡ Accepted → at + rowSize n ≤ length s
-unfolding rowStatus
-row-room n s at e = due-room-at (rowDue n) s at e

@@ -62,8 +62,8 @@ pub struct RowPlaces {
 // field begins.
 pub struct TailPlaces {
     pub trial: usize,
-    pub count: usize,
-    pub len: usize,
+    pub trial_count: usize,
+    pub trial_len: usize,
     pub end: usize,
 }
 
@@ -102,19 +102,19 @@ pub fn tail_places(rounds: usize, n: usize) -> TailPlaces
 {
     let row = row_places(n);
     let trial = ROWS_AT + n * row.size;
-    let len = n * SIZE_32;
+    let trial_len = n * SIZE_32;
     if rounds == 0 {
         TailPlaces {
             trial,
-            count: n,
-            len,
-            end: trial + fields::HEADER_SIZE + len,
+            trial_count: n,
+            trial_len,
+            end: trial + fields::HEADER_SIZE + trial_len,
         }
     } else {
         TailPlaces {
             trial,
-            count: 0,
-            len,
+            trial_count: 0,
+            trial_len,
             end: trial,
         }
     }

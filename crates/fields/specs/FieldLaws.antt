@@ -113,9 +113,18 @@ module _ (tag len : ℕ) (s : List ℕ) (accepted : fieldStatus tag len s ≡ Ac
       let t : v ≡ take len (valueOf s) = sym (take-at v (drop len (valueOf s)) len l) ∙ ap (take len) e in
       rw t (field-is bs)
 
--- where it stands in the whole input; x is what was answered for it
-pub field-room-at : (tag len : ℕ) (s : List ℕ) (at : ℕ) {x : Status} → x ≡ fieldStatus tag len (drop at s) → x ≡ Accepted → at + (headerSize + len) ≤ length s
-field-room-at tag len s at e g = omega (arith, length-drop at s, whole tag len (drop at s) (sym e ∙ g))
+-- ---- the check of a field at a place of the input, by the place and the length that were computed: what was answered, where the field ends, and its value
 
-pub value-at : (s : List ℕ) (at : ℕ) → drop (at + headerSize) s ≡ valueOf (drop at s)
-value-at s at = sym (drop-drop headerSize at s)
+pub record Checked (tag len : ℕ) (s : List ℕ) (at place : ℕ) (x : Status) : Type 0 where
+  pub is : x ≡ fieldStatus tag len (drop at s)
+  pub room : x ≡ Accepted → at + (headerSize + len) ≤ length s
+  pub value : drop (place + headerSize) s ≡ valueOf (drop at s)
+
+pub checked : (tag len : ℕ) (s : List ℕ) (at : ℕ) {place l : ℕ} {x : Status} → place ≡ at → l ≡ len → x ≡ fieldStatus tag l (drop place s) → Checked tag len s at place x
+checked tag len s at p q e =
+    let w = rw (p, q) at e in
+    record {
+      is = w;
+      room = λ g. omega (arith, length-drop at s, whole tag len (drop at s) (sym w ∙ g));
+      value = rw p (sym (drop-drop headerSize at s));
+    }

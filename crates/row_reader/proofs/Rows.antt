@@ -16,12 +16,14 @@ use Rattle.buffer.specs.Laws.{filled, length-onto}
 use Rattle.figures.specs.LoopLaws.{ReadingItems, begun, stopped, turn, ended}
 use Rattle.limits.specs.Limits.{mostTanks}
 use Rattle.rows.specs.Block.{Block, block, Counts, HasRoom, SameLengths, RowsRoom, stacked, over, together}
-use Rattle.casefile.specs.Layout.{rowSize}
-use Rattle.casefile.specs.Decode.{rowAt, rowStatus, rowsStatus}
+use Rattle.fields.specs.FieldLaws.{checked}
+use Rattle.casefile.specs.Layout.{rowTag, rowLength, rowSize}
+use Rattle.casefile.specs.Decode.{rowAt, rowDue, rowStatus, rowsStatus}
 use Rattle.rows.specs.BlockLaws.{together-more, AtRow, first-row, rows-held, row-held, next-row}
 use Rattle.casefile.specs.SoundLaws.{SoundBlock, counts, Rows, none, together-sound, rows-more}
-use Rattle.casefile.specs.RowLaws.{row-sound, row-room}
-use Rattle.row_reader.specs.Read.{RowRead, RowsRead}
+use Rattle.casefile.specs.DueLaws.{due-field}
+use Rattle.casefile.specs.RowLaws.{row-sound}
+use Rattle.row_reader.specs.Read.{RowFound, RowsFound}
 
 -- the lists after a row's parts of them, which begin at k and at m, were filled with r
 abbrev with-row : ℕ → ℕ → ℕ → Block → Block → Block
@@ -67,15 +69,16 @@ module _ (s : List ℕ) (at n : ℕ) (lists₀ : Block) where
     pub next : i < n → (n ≤ mostTanks) × HasRoom (from + n) (i + 1) lists × SameLengths lists lists₀
     next h = (r .at-row .room .small, omega (arith, row-held (r .at-row) h, lengths), lengths)
 
-    pub stopped-rows : i < n → (x : Status) (q : Refusal) → x ≡ rowStatus n (drop p s) → x ≡ Refused q → (exit : Block) → RowsRead n (drop at s) lists₀ x exit
+    pub stopped-rows : i < n → (x : Status) (q : Refusal) → x ≡ rowStatus n (drop p s) → x ≡ Refused q → (exit : Block) → RowsFound n (drop at s) lists₀ x exit
     unfolding rowsStatus
     stopped-rows h x q e g exit = record { status = stopped (r .read) h (λ m. stops _ e g); made = λ y. not-both x q g y }
 
     -- the next row is whole
     pub past : (x : Status) → x ≡ rowStatus n (drop p s) → x ≡ Accepted → p + rowSize n ≤ length s
-    past x e g = row-room n s p (sym e ∙ g)
+    unfolding rowStatus
+    past x e g = checked rowTag (rowLength n) s p refl refl refl .room (due-field (rowDue n) (drop p s) (sym e ∙ g))
 
-    pub turn-rows : i < n → {size : ℕ} → size ≡ rowSize n → {x : Status} {row : Block} → RowRead n (drop p s) x row → x ≡ Accepted
+    pub turn-rows : i < n → {size : ℕ} → size ≡ rowSize n → {x : Status} {row : Block} → RowFound n (drop p s) x row → x ≡ Accepted
         → ReadingRows (with-row n from i lists row) (i + 1) (from + n) (p + size)
     unfolding rowsStatus
     turn-rows h e {x} {row} w g =
@@ -92,7 +95,7 @@ module _ (s : List ℕ) (at n : ℕ) (lists₀ : Block) where
           read = rw made (turn (r .read) h (λ m. first-goes-on (rowStatus n (drop p s)) _ acc));
         })
 
-    pub ended-rows : n ≤ i → RowsRead n (drop at s) lists₀ Accepted lists
+    pub ended-rows : n ≤ i → RowsFound n (drop at s) lists₀ Accepted lists
     unfolding rowsStatus
     ended-rows h =
         let w = ended (r .read) h in

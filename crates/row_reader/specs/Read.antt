@@ -8,9 +8,9 @@ use Rattle.rows.specs.Block.{Block, over, together}
 use Rattle.casefile.specs.Decode.{rowAt, rowStatus, rowsStatus, rowsOf}
 
 -- one row's field at the front of s
-abbrev pub RowRead : ℕ → List ℕ → Status → Block → Type 0
-RowRead n s r lists = Answered Accepted (rowStatus n s) (rowAt n s) r lists
+abbrev pub RowFound : ℕ → List ℕ → Status → Block → Type 0
+RowFound n s r lists = Answered Accepted (rowStatus n s) (rowAt n s) r lists
 
 -- n rows' fields at the front of s, their figures over the lists' fronts
-abbrev pub RowsRead : ℕ → List ℕ → Block → Status → Block → Type 0
-RowsRead n s entry r exit = Answered Accepted (rowsStatus n n s) (over (together (rowsOf n n s)) entry) r exit
+abbrev pub RowsFound : ℕ → List ℕ → Block → Status → Block → Type 0
+RowsFound n s entry r exit = Answered Accepted (rowsStatus n n s) (over (together (rowsOf n n s)) entry) r exit

@@ -1,7 +1,7 @@
 // The reader of the rows of a case.
 ghost use lib.ListN.{drop};
 ghost use Rattle.rows.specs.Block.{block, RowLists, RowsRoom};
-ghost use Rattle.row_reader.specs.Read.{RowRead, RowsRead};
+ghost use Rattle.row_reader.specs.Read.{RowFound, RowsFound};
 use fields::HEADER_SIZE;
 use outcome::Refusal;
 use outcome::Status;
@@ -17,7 +17,7 @@ fn read_row(
     f: &mut [u32],
 ) -> Status
     requires { ⌜ RowLists n (block (now a) (now t) (now b) (now f)) ⌝ }
-    ensures { λ r. ⌜ RowRead n (drop at (now (s .entry))) r (block (now (a .exit)) (now (t .exit)) (now (b .exit)) (now (f .exit))) ⌝ }
+    ensures { λ r. ⌜ RowFound n (drop at (now (s .entry))) r (block (now (a .exit)) (now (t .exit)) (now (b .exit)) (now (f .exit))) ⌝ }
 {
     let row = casefile::row_places(n);
     let field = fields::check_field(s, at, casefile::ROW_TAG, row.len);
@@ -52,7 +52,7 @@ pub fn read_rows(
     f: &mut [u32],
 ) -> Status
     requires { ⌜ RowsRoom n (block (now a) (now t) (now b) (now f)) ⌝ }
-    ensures { λ r. ⌜ RowsRead n (drop at (now (s .entry))) (block (now (a .entry)) (now (t .entry)) (now (b .entry)) (now (f .entry))) r (block (now (a .exit)) (now (t .exit)) (now (b .exit)) (now (f .exit))) ⌝ }
+    ensures { λ r. ⌜ RowsFound n (drop at (now (s .entry))) (block (now (a .entry)) (now (t .entry)) (now (b .entry)) (now (f .entry))) r (block (now (a .exit)) (now (t .exit)) (now (b .exit)) (now (f .exit))) ⌝ }
 {
     let places = casefile::row_places(n);
     let size = places.size;

@@ -9,9 +9,9 @@ use lib.Seq.{getD-drop}
 use denote.Ref.{now}
 use Rattle.outcome.specs.declared.Refusal.the-variants.{OutsideLimits}
 use Rattle.fields.specs.Field.{headerSize, valueOf}
-use Rattle.casefile.specs.Layout.{nIn, exponentIn, roundsIn, rowsAt}
-use Rattle.casefile.specs.Decode.{headDue, headStatus}
-use Rattle.casefile.specs.DueLaws.{checked}
+use Rattle.fields.specs.FieldLaws.{checked}
+use Rattle.casefile.specs.Layout.{headTag, headLength, nIn, exponentIn, roundsIn, rowsAt}
+use Rattle.casefile.specs.Decode.{headStatus}
 use Rattle.casefile.specs.AnswerLaws.{answer-stops, answer-goes-on}
 use borrow.Author.Needs.{needs}
 use Rattle.case_reader.proofs.read_head.Statement.{statement}
@@ -23,7 +23,7 @@ module _ (k : tie.After-enum-told2) where
   s = now (k .before .before .before .before .args .s)
 
   long : rowsAt ≤ length s
-  long = checked headDue s 0 refl refl (k .before .before .check-field .ensures) .room (k .enum-told2 .given .1)
+  long = checked headTag headLength s 0 refl refl (k .before .before .check-field .ensures) .room (k .enum-told2 .given .1)
 
   value-byte : (i : ℕ) → getD (valueOf s) i 0 ≡ getD s (headerSize + i) 0
   value-byte i = getD-drop headerSize s i 0

@@ -1,14 +1,14 @@
 -- `case_reader::read_tail` meets its contract: the trial's refusal, then the end field's, then whether the input ends with it.
 -- Assumes nothing.
 use native.Mathlib.Omega.{arith}
-use mathlib.Core.Path.{_≡_, sym, _∙_}
+use mathlib.Core.Path.{_≡_, refl, sym, _∙_}
 use lib.ListN.{drop, length-drop}
 use lib.Seq.{drop-drop}
 use denote.Ref.{now}
 use Rattle.outcome.specs.declared.Status.the-variants.{Accepted}
 use Rattle.outcome.specs.Laws.{first-goes-on}
-use Rattle.fields.specs.Field.{endTag, endLength, fieldStatus}
-use Rattle.fields.specs.FieldLaws.{field-room-at}
+use Rattle.fields.specs.Field.{endTag, endLength}
+use Rattle.fields.specs.FieldLaws.{Checked, checked}
 use Rattle.casefile.specs.Layout.{rowsEnd, trialSize, endAt}
 use Rattle.casefile.specs.Decode.{trialStatus, endStatus, tailStatus}
 use Rattle.casefile.specs.AnswerLaws.{answer-stops}
@@ -33,8 +33,8 @@ module _ (k : tie.After-check-field) where
   trial-fine : let g = start .args in trialStatus (g .rounds) (g .n) (drop (rowsEnd (g .n)) (now (g .s))) ≡ Accepted
   trial-fine = sym (trial .read-trial .ensures .status) ∙ told .enum-told2 .given .1
 
-  field : let g = start .args in k .check-field .result ≡ fieldStatus endTag endLength (drop (endAt (g .rounds) (g .n)) (now (g .s)))
-  field = rw (placed .tail-places .ensures .end) at (k .check-field .ensures)
+  field : let g = start .args in Checked endTag endLength (now (g .s)) (endAt (g .rounds) (g .n)) (placed .tail-places .result .end) (k .check-field .result)
+  field = let g = start .args in checked endTag endLength (now (g .s)) (endAt (g .rounds) (g .n)) (placed .tail-places .ensures .end) refl (k .check-field .ensures)
 
   -- what is left to be found is the end's
   tail-is : let g = start .args in tailStatus (g .rounds) (g .n) (drop (rowsEnd (g .n)) (now (g .s))) ≡ endStatus (drop (endAt (g .rounds) (g .n)) (now (g .s)))
@@ -48,13 +48,12 @@ returns c = answer-stops (c .before .before .before .read-trial .ensures .status
 
 returns-2 : tie.Need-returns-2
 unfolding endStatus
-returns-2 c = let k = c .before .before in rw (tail-is k) (answer-stops (field k) _ (c .enum-told3 .given .1))
+returns-2 c = let k = c .before .before in rw (tail-is k) (answer-stops (field k .is) _ (c .enum-told3 .given .1))
 
 sub-check : tie.Need-sub-check
 sub-check c =
     let k = c .before .before .before in
-    let g = start k .args in
-    omega (arith, placed k .tail-places .ensures, field-room-at endTag endLength (now (g .s)) (endAt (g .rounds) (g .n)) (field k) (c .before .enum-told4 .given .1))
+    omega (arith, placed k .tail-places .ensures, field k .room (c .before .enum-told4 .given .1))
 
 returns-3 : tie.Need-returns-3
 unfolding endStatus
@@ -64,7 +63,7 @@ returns-3 c =
     let e = rw (placed k .tail-places .ensures .end) at (c .check .ensures) in
     rw (tail-is k)
     (record {
-      status = e ∙ rw (length-drop (endAt (g .rounds) (g .n)) (now (g .s))) (first-goes-on _ _ (sym (field k) ∙ c .before .before .enum-told4 .given .1));
+      status = e ∙ rw (length-drop (endAt (g .rounds) (g .n)) (now (g .s))) (first-goes-on _ _ (sym (field k .is) ∙ c .before .before .enum-told4 .given .1));
       made = λ _. trial k .read-trial .ensures .made (told k .enum-told2 .given .1);
     })
 

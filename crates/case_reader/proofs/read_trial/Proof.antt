@@ -1,19 +1,17 @@
 -- `case_reader::read_trial` meets its contract, by whether the case brings a trial: the field's refusal, then its figures.
 -- Assumes nothing.
 use native.Mathlib.Omega.{arith}
-use Prim.Native.Nat.{ℕ, _+_}
-use mathlib.Core.Path.{_≡_, refl, sym, ap, _∙_}
+use mathlib.Core.Path.{_≡_, refl, sym}
 use lib.ListN.{length, take, drop}
 use lib.Seq.{length-take-le}
 use denote.Ref.{now}
 use Rattle.outcome.specs.declared.Refusal.the-variants.{OutsideLimits}
 use Rattle.figures.specs.ItemLaws.{length-items}
-use Rattle.fields.specs.Field.{headerSize, valueOf}
-use Rattle.fields.specs.FieldLaws.{value-at}
-use Rattle.casefile.specs.Layout.{rowsEnd, trialKind}
-use Rattle.casefile.specs.Decode.{trialDue, trialStatus, trialOf}
+use Rattle.fields.specs.Field.{valueOf}
+use Rattle.fields.specs.FieldLaws.{Checked, checked}
+use Rattle.casefile.specs.Layout.{rowsEnd, trialTag, trialKind, trialLength}
+use Rattle.casefile.specs.Decode.{trialStatus, trialOf}
 use Rattle.casefile.specs.TailLaws.{not-brought}
-use Rattle.casefile.specs.DueLaws.{Checked, checked}
 use Rattle.casefile.specs.AnswerLaws.{answer-stops, answer-goes-on, run-at}
 use borrow.Author.Needs.{needs}
 use Rattle.case_reader.proofs.read_trial.Statement.{statement}
@@ -31,8 +29,8 @@ module _ (k : tie.After-check-field) where
   abbrev start : tie.Start
   start = placed .before .before .before
 
-  field : Checked (trialDue (start .args .n)) (now (start .args .s)) (rowsEnd (start .args .n)) (k .check-field .result)
-  field = let p = placed .tail-places .ensures in checked (trialDue (start .args .n)) (now (start .args .s)) (rowsEnd (start .args .n)) (p .trial) (p .len) (k .check-field .ensures)
+  field : let g = start .args in Checked trialTag (trialLength (g .n)) (now (g .s)) (rowsEnd (g .n)) (placed .tail-places .result .trial) (k .check-field .result)
+  field = let g = start .args in let p = placed .tail-places .ensures in checked trialTag (trialLength (g .n)) (now (g .s)) (rowsEnd (g .n)) (p .trial) (p .trial-len) (k .check-field .ensures)
 
   taken : length (take (start .args .n) (now (start .args .y))) ≡ start .args .n
   taken = length-take-le (start .args .n) (now (start .args .y)) (start .pre .room)
@@ -57,8 +55,7 @@ returns-3 c =
     let w = c .before .before in
     let k = w .before .before .before .before .before in
     let g = start k .args in
-    let there = ap (λ (p : ℕ). drop (p + headerSize) (now (g .s))) (placed k .tail-places .ensures .trial) ∙ value-at (now (g .s)) (rowsEnd (g .n)) in
-    let q = run-at trialKind _ there (taken k) (w .read-i32s .ensures) in
+    let q = run-at trialKind _ (field k .value) (taken k) (w .read-i32s .ensures) in
     rw (k .before .before .if1 .left)
     (answer-goes-on (field k .is) OutsideLimits (w .before .before .before .enum-told2 .given .1)
     (record { status = q .status; made = λ _. rw (q .made, length-items _ _ (g .n) (valueOf (drop (rowsEnd (g .n)) (now (g .s))))) }) (c .check .ensures))

@@ -48,7 +48,7 @@ returns-2 c =
     let t = c .before .before .before .before .before .before .before .before .before .before .before .before .before .before in
     let d = t .before .before in
     c .before .before .write-case .ensures
-    ∙ again (file d) (case d) (whole d) _ (t .tail-places .ensures .count)
+    ∙ again (file d) (case d) (whole d) _ (t .tail-places .ensures .trial-count)
     (bytes-from (file d) (λ i. read d .before .before .shared-slice-known .given i .fits)) (now (start (read d) .args .out))
 
 pub read-and-write-spec : {M : Type 1} → statement M

@@ -37,7 +37,7 @@ returns-2 : tie.Need-returns-2
 unfolding caseStatus counted
 returns-2 c =
     let p = c .before .before in
-    let e : counted (case-of (start (p .before))) ≡ false = rw (← (p .tail-places .ensures .count)) (not-true _ (c .if2 .taken)) in
+    let e : counted (case-of (start (p .before))) ≡ false = rw (← (p .tail-places .ensures .trial-count)) (not-true _ (c .if2 .taken)) in
     rw (head-passed (p .before), e)
 
 returns-3 : tie.Need-returns-3
@@ -49,7 +49,7 @@ returns-3 c =
     let t = b .before in
     let a = t .before in
     let p = a .before .before .before in
-    let e : counted (case-of (start (p .before))) ≡ true = rw (← (p .tail-places .ensures .count)) (not-false _ (a .before .if2 .left)) in
+    let e : counted (case-of (start (p .before))) ≡ true = rw (← (p .tail-places .ensures .trial-count)) (not-false _ (a .before .if2 .left)) in
     rw (head-passed (p .before), e, ← (a .all-i16 .ensures), ← (t .all-u16 .ensures), ← (b .all-i32 .ensures), ← (f .all-u32 .ensures), ← (w .all-i322 .ensures))
     (c .check .ensures)
 

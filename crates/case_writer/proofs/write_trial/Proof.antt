@@ -35,7 +35,7 @@ returns c =
     let k = placed h in
     let a = start k .args in
     let v = spread trialKind (now (a .y)) in
-    let l : length v ≡ k .tail-places .result .len = omega (arith, length-spread trialKind (now (a .y)), brought k, k .tail-places .ensures) in
+    let l : length v ≡ k .tail-places .result .«trial_len» = omega (arith, length-spread trialKind (now (a .y)), brought k, k .tail-places .ensures) in
     rw (k .before .if1 .taken) (simp append-nil (field-written trialTag _ v (now (a .out)) _ l (h .write-header .ensures) (w .write-i32s .ensures)))
 
 returns-2 : tie.Need-returns-2

@@ -12,13 +12,12 @@ use denote.Ref.{now}
 use Rattle.outcome.specs.declared.Refusal.the-variants.{OutsideLimits}
 use Rattle.figures.specs.Figures.{i16, u16, i32, u32, within, upTo, Answered, RunRead}
 use Rattle.fields.specs.Field.{headerSize, valueOf}
-use Rattle.fields.specs.FieldLaws.{value-at}
+use Rattle.fields.specs.FieldLaws.{Checked, checked}
 use Rattle.limits.specs.Limits.{coefficientLimit, toleranceLimit, rightSideLimit, rightToleranceLimit}
 use Rattle.rows.specs.Block.{Block, block, RowLists}
 use Rattle.casefile.specs.Case.{rowsFine}
-use Rattle.casefile.specs.Layout.{tolerancesAt, rightSideAt, rightToleranceAt, rowSize, RowPlaced}
-use Rattle.casefile.specs.Decode.{rowOf, rowDue, rowStatus}
-use Rattle.casefile.specs.DueLaws.{Checked, checked}
+use Rattle.casefile.specs.Layout.{rowTag, rowLength, tolerancesAt, rightSideAt, rightToleranceAt, rowSize, RowPlaced}
+use Rattle.casefile.specs.Decode.{rowOf, rowStatus}
 use Rattle.casefile.specs.AnswerLaws.{answer-stops, answer-goes-on, run-at}
 use borrow.Author.Needs.{needs}
 use Rattle.row_reader.proofs.read_row.Statement.{statement}
@@ -34,10 +33,6 @@ row-answered : (r : Block) {a b : List ℤ} {t f : List ℕ} {b1 b2 b3 b4 : Bool
 unfolding rowsFine
 row-answered r w1 w2 w3 w4 = search (w1 .made, w2 .made, w3 .made, w4 .made)
 
--- a place of the field's value
-in-value : (s : List ℕ) (at q : ℕ) {p : ℕ} → p ≡ q → drop (at + headerSize + p) s ≡ drop q (valueOf (drop at s))
-in-value s at q e = rw (e, ← (drop-drop q (at + headerSize) s), value-at s at)
-
 -- the field, checked
 module _ (k : tie.After-check-field) where
   abbrev placed : tie.After-row-places
@@ -52,8 +47,12 @@ module _ (k : tie.After-check-field) where
   abbrev value : List ℕ
   value = valueOf (drop (start .args .at) s)
 
-  field : Checked (rowDue (start .args .n)) s (start .args .at) (k .check-field .result)
-  field = checked (rowDue (start .args .n)) s (start .args .at) refl (placed .row-places .ensures .len) (k .check-field .ensures)
+  field : Checked rowTag (rowLength (start .args .n)) s (start .args .at) (start .args .at) (k .check-field .result)
+  field = checked rowTag (rowLength (start .args .n)) s (start .args .at) refl (placed .row-places .ensures .len) (k .check-field .ensures)
+
+  -- a place of its value
+  in-value : (q : ℕ) {p : ℕ} → p ≡ q → drop (start .args .at + headerSize + p) s ≡ drop q value
+  in-value q e = rw (e, ← (drop-drop q (start .args .at + headerSize) s), field .value)
 
 -- it is not refused: the row's places, its room and its lists
 known : (k : tie.After-enum-told2) → let h = k .before .before in let g = start h .args in
@@ -91,10 +90,10 @@ returns-2 c =
     let l = q .2 .counts in
     answer-goes-on (field h .is) OutsideLimits (told .enum-told2 .given .1)
     (row-answered (rowOf (g .n) (value h))
-    (run-at i16 _ (value-at (s h) (g .at)) (l .la) (w1 .read-i16s .ensures))
-    (run-at u16 _ (in-value (s h) (g .at) (tolerancesAt (g .n)) (q .0 .tolerances)) (l .lt) (w2 .read-u16s .ensures))
-    (run-at i32 _ (in-value (s h) (g .at) (rightSideAt (g .n)) (q .0 .right-side)) (l .lb) (w3 .read-i32s .ensures))
-    (run-at u32 _ (in-value (s h) (g .at) (rightToleranceAt (g .n)) (q .0 .right-tolerance)) (l .lf) (w4 .read-u32s .ensures)))
+    (run-at i16 _ (field h .value) (l .la) (w1 .read-i16s .ensures))
+    (run-at u16 _ (in-value h (tolerancesAt (g .n)) (q .0 .tolerances)) (l .lt) (w2 .read-u16s .ensures))
+    (run-at i32 _ (in-value h (rightSideAt (g .n)) (q .0 .right-side)) (l .lb) (w3 .read-i32s .ensures))
+    (run-at u32 _ (in-value h (rightToleranceAt (g .n)) (q .0 .right-tolerance)) (l .lf) (w4 .read-u32s .ensures)))
     (c .check .ensures)
 
 pub read-row-spec : {M : Type 1} → statement M
