@@ -18,7 +18,7 @@ headOf s = record { status = Accepted; n = headTanks s; exponent = headExponent 
 abbrev pub HeadFound : List ℕ → Head → Type 0
 HeadFound s r = Answered Accepted (headStatus s) (headOf s) (r .status) r
 
--- the trial fits
+-- n within its limit, and room for the figures of a trial
 pub record TrialFits (n : ℕ) (y : List ℤ) : Type 0 where
   pub small : n ≤ mostTanks
   pub room : n ≤ length y

@@ -17,7 +17,7 @@ use Rattle.fields.specs.Field.{endTag, endLength, endSize, valueOf, fieldStatus
 use Rattle.limits.specs.Limits.{mostTanks, mostCoefficients, trialLimit}
 use Rattle.rows.specs.Block.{Block, block, over, noRow, together}
 use Rattle.casefile.specs.Case.{Case, caseWith, headFine, whereBrought, rowsFine}
-use Rattle.casefile.specs.Layout.{headTag, headLength, headValue, nIn, exponentIn, roundsIn, rowsAt, rowTag, rowLength, rowSize, tolerancesAt, rightSideAt, rightToleranceAt, rowsEnd, rowBytes, trialTag, trialKind, trialLength, trialSize}
+use Rattle.casefile.specs.Layout.{headTag, headLength, headValue, nIn, exponentIn, roundsIn, rowsAt, rowTag, rowLength, rowSize, tolerancesIn, rightSideIn, rightToleranceIn, rowsEnd, rowBytes, trialTag, trialKind, trialLength, trialSize}
 use Rattle.casefile.specs.declared.Case.{Case as Stored}
 use Rattle.casefile.specs.declared.Reading.{Reading}
 
@@ -74,9 +74,9 @@ unfoldable pub rowOf : ℕ → List ℕ → Block
 rowOf n v =
     block
     (figures i16 n v)
-    (figures u16 n (drop (tolerancesAt n) v))
-    (figures i32 1 (drop (rightSideAt n) v))
-    (figures u32 1 (drop (rightToleranceAt n) v))
+    (figures u16 n (drop (tolerancesIn n) v))
+    (figures i32 1 (drop (rightSideIn n) v))
+    (figures u32 1 (drop (rightToleranceIn n) v))
 
 abbrev pub rowDue : ℕ → Due Block
 rowDue n = record { tag = rowTag; len = rowLength n; read = rowOf n; fine = rowsFine; write = rowBytes }

@@ -51,20 +51,20 @@ abbrev pub rowSize : ℕ → ℕ
 rowSize n = headerSize + rowLength n
 
 -- where the tolerances, b and f stand in a row's value: each behind the figures before it
-abbrev pub tolerancesAt : ℕ → ℕ
-tolerancesAt n = i16 .width * n
+abbrev pub tolerancesIn : ℕ → ℕ
+tolerancesIn n = i16 .width * n
 
-abbrev pub rightSideAt : ℕ → ℕ
-rightSideAt n = tolerancesAt n + u16 .width * n
+abbrev pub rightSideIn : ℕ → ℕ
+rightSideIn n = tolerancesIn n + u16 .width * n
 
-abbrev pub rightToleranceAt : ℕ → ℕ
-rightToleranceAt n = rightSideAt n + i32 .width * 1
+abbrev pub rightToleranceIn : ℕ → ℕ
+rightToleranceIn n = rightSideIn n + i32 .width * 1
 
 -- the places and lengths of a row of n tanks, as the program holds them
 pub record RowPlaced (n : ℕ) (r : RowPlaces) : Type 0 where
-  pub tolerances : r .tolerances ≡ tolerancesAt n
-  pub right-side : r .«right_side» ≡ rightSideAt n
-  pub right-tolerance : r .«right_tolerance» ≡ rightToleranceAt n
+  pub tolerances : r .tolerances ≡ tolerancesIn n
+  pub right-side : r .«right_side» ≡ rightSideIn n
+  pub right-tolerance : r .«right_tolerance» ≡ rightToleranceIn n
   pub len : r .len ≡ rowLength n
   pub size : r .size ≡ rowSize n
 

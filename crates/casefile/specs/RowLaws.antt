@@ -16,7 +16,7 @@ use Rattle.fields.specs.Field.{valueOf}
 use Rattle.fields.specs.FieldLaws.{length-field}
 use Rattle.limits.specs.Limits.{mostTanks}
 use Rattle.rows.specs.Block.{Block, Counts}
-use Rattle.casefile.specs.Layout.{rowTag, rowLength, rowSize, rightToleranceAt, rowBytes, rowField}
+use Rattle.casefile.specs.Layout.{rowTag, rowLength, rowSize, rightToleranceIn, rowBytes, rowField}
 use Rattle.casefile.specs.Decode.{rowOf, rowAt, rowDue, rowStatus}
 use Rattle.casefile.specs.DueLaws.{DueBack, due-back, due-fine, due-same}
 use Rattle.casefile.specs.KindLaws.{coefficient-lawful, tolerance-lawful, right-side-lawful, right-tolerance-lawful}
@@ -70,7 +70,7 @@ module _ (n : ℕ) (s : List ℕ) (accepted : rowStatus n s ≡ Accepted) where
       let v2 : List ℕ = after u16 n v1 in
       let v3 : List ℕ = after i32 1 v2 in
       let room : (i16 .width * n ≤ length v) × (u16 .width * n ≤ length v1) × (i32 .width * 1 ≤ length v2) × (u32 .width * 1 ≤ length v3) = simp length-drop (omega arith) in
-      let k : rowLength n ≡ rightToleranceAt n + u32 .width * 1 = omega arith in
+      let k : rowLength n ≡ rightToleranceIn n + u32 .width * 1 = omega arith in
       search (
         append-assoc,
         k,

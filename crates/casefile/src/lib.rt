@@ -1,4 +1,5 @@
-// A case as the program holds it, what reading gives, whether n, e and K are within their limits, and the tags, lengths and places of its fields in bytes.
+// A case as the program holds it, what reading gives, whether n, e and K are within their limits, and the tags, lengths and places of its fields in bytes,
+// with how many figures the trial has.
 ghost use mathlib.Core.Path.{_≡_};
 ghost use Prim.Native.Nat.{_≤_};
 ghost use Rattle.limits.specs.Limits.{mostTanks};
@@ -49,7 +50,7 @@ pub struct Reading {
     pub case: Case,
 }
 
-// The places and lengths of a row of n tanks.
+// The places of a row's parts in its value, and the lengths of value and field, for n tanks.
 pub struct RowPlaces {
     pub tolerances: usize,
     pub right_side: usize,

@@ -1,4 +1,4 @@
--- The laws of a field: one that was written is whole, and one that is whole is what a writer writes.
+-- The laws of a field: one that was written is whole, one that is whole is what a writer writes, and what the check of a field at a place tells.
 -- Assumes nothing.
 use mathlib.Core.Path.{_≡_, refl, sym, ap, _∙_}
 use mathlib.Core.List.{List, _++_, append-assoc}

@@ -1,4 +1,4 @@
--- Items of one width, one after another, figures or rows: how long they are, what was written is read back, what was read is written back. Once for every kind
+-- Items of one width, one after another: how long they are, what was written is read back, what was read is written back. Once for every kind
 -- of item: `Ok` is what is known of the items that are left, and tells of the first one what the law needs and the same of the others. Assumes nothing.
 use mathlib.Core.Path.{_≡_, refl, sym, ap, _∙_}
 use mathlib.Core.List.{List, [], _∷_, _++_, append-assoc}

@@ -16,7 +16,7 @@ use Rattle.fields.specs.FieldLaws.{Checked, checked}
 use Rattle.limits.specs.Limits.{coefficientLimit, toleranceLimit, rightSideLimit, rightToleranceLimit}
 use Rattle.rows.specs.Block.{Block, block, RowLists}
 use Rattle.casefile.specs.Case.{rowsFine}
-use Rattle.casefile.specs.Layout.{rowTag, rowLength, tolerancesAt, rightSideAt, rightToleranceAt, rowSize, RowPlaced}
+use Rattle.casefile.specs.Layout.{rowTag, rowLength, tolerancesIn, rightSideIn, rightToleranceIn, rowSize, RowPlaced}
 use Rattle.casefile.specs.Decode.{rowOf, rowStatus}
 use Rattle.casefile.specs.AnswerLaws.{answer-stops, answer-goes-on, run-at}
 use borrow.Author.Needs.{needs}
@@ -91,9 +91,9 @@ returns-2 c =
     answer-goes-on (field h .is) OutsideLimits (told .enum-told2 .given .1)
     (row-answered (rowOf (g .n) (value h))
     (run-at i16 _ (field h .value) (l .la) (w1 .read-i16s .ensures))
-    (run-at u16 _ (in-value h (tolerancesAt (g .n)) (q .0 .tolerances)) (l .lt) (w2 .read-u16s .ensures))
-    (run-at i32 _ (in-value h (rightSideAt (g .n)) (q .0 .right-side)) (l .lb) (w3 .read-i32s .ensures))
-    (run-at u32 _ (in-value h (rightToleranceAt (g .n)) (q .0 .right-tolerance)) (l .lf) (w4 .read-u32s .ensures)))
+    (run-at u16 _ (in-value h (tolerancesIn (g .n)) (q .0 .tolerances)) (l .lt) (w2 .read-u16s .ensures))
+    (run-at i32 _ (in-value h (rightSideIn (g .n)) (q .0 .right-side)) (l .lb) (w3 .read-i32s .ensures))
+    (run-at u32 _ (in-value h (rightToleranceIn (g .n)) (q .0 .right-tolerance)) (l .lf) (w4 .read-u32s .ensures)))
     (c .check .ensures)
 
 pub read-row-spec : {M : Type 1} → statement M
