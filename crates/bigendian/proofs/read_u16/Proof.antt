@@ -1,9 +1,11 @@
 -- `bigendian::read_u16` meets its contract: a number in two parts of one byte each.
 -- Assumes nothing.
-use Prim.Native.Nat.{_+_}
+use Prim.Native.Nat.{_+_, _*_, _^_}
 use native.Mathlib.Omega.{arith}
-use mathlib.Core.Path.{sym}
+use mathlib.Core.Path.{_≡_, sym, _∙_}
+use lib.ListN.{getD, take, drop}
 use denote.Ref.{now}
+use Rattle.bigendian.specs.Number.{be}
 use Rattle.bigendian.specs.NumberLaws.{be-one, be-two}
 use borrow.Author.Needs.{needs}
 use Rattle.bigendian.proofs.read_u16.Statement.{statement}
@@ -14,7 +16,9 @@ returns c =
     let w = c .before .before in
     let s = now (w .args .s) in
     let at = w .args .at in
-    rw (← (be-one s at (omega (arith, w .pre))), ← (be-one s (at + 1) (omega (arith, w .pre)))) (sym (be-two 1 1 s at (w .pre)))
+    let e : be (take (1 + 1) (drop at s)) ≡ getD s at 0 * 256 ^ 1 + getD s (at + 1) 0 =
+    be-two 1 1 s at (w .pre) ∙ rw (be-one s at (omega (arith, w .pre)), be-one s (at + 1) (omega (arith, w .pre))) in
+    sym e
 
 pub read-u16-spec : {M : Type 1} → statement M
 read-u16-spec =

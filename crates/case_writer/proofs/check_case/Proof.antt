@@ -5,6 +5,8 @@ use mathlib.Core.Path.{_≡_, sym, _∙_}
 use mathlib.Core.Bool.{true, false}
 use denote.Ref.{now}
 use borrow.Author.Tests.{not-true, not-false}
+use Rattle.figures.specs.Figures.{allUpTo, allWithin}
+use Rattle.limits.specs.Limits.{coefficientLimit, toleranceLimit, rightSideLimit, rightToleranceLimit, trialLimit}
 use Rattle.casefile.specs.Case.{Case, given, HeadSmall, headFine, counted, rowsFine, figuresFine, caseStatus}
 use Rattle.casefile.specs.CaseLaws.{head-small}
 use Rattle.casefile.specs.RowsLaws.{square-fits}
@@ -50,8 +52,13 @@ returns-3 c =
     let a = t .before in
     let p = a .before .before .before in
     let e : counted (case-of (start (p .before))) ≡ true = rw (← (p .tail-places .ensures .trial-count)) (not-false _ (a .before .if2 .left)) in
-    rw (head-passed (p .before), e, ← (a .all-i16 .ensures), ← (t .all-u16 .ensures), ← (b .all-i32 .ensures), ← (f .all-u32 .ensures), ← (w .all-i322 .ensures))
-    (c .check .ensures)
+    let g = start (p .before) .args in
+    let a-is : a .all-i16 .result ≡ allWithin coefficientLimit (now (g .a)) = a .all-i16 .ensures in
+    let t-is : t .all-u16 .result ≡ allUpTo toleranceLimit (now (g .t)) = t .all-u16 .ensures in
+    let b-is : b .all-i32 .result ≡ allWithin rightSideLimit (now (g .b)) = b .all-i32 .ensures in
+    let f-is : f .all-u32 .result ≡ allUpTo rightToleranceLimit (now (g .f)) = f .all-u32 .ensures in
+    let y-is : w .all-i322 .result ≡ allWithin trialLimit (now (g .y)) = w .all-i322 .ensures in
+    rw (head-passed (p .before), e, ← a-is, ← t-is, ← b-is, ← f-is, ← y-is) (c .check .ensures)
 
 pub check-case-spec : {M : Type 1} → statement M
 check-case-spec =
