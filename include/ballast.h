@@ -1,11 +1,16 @@
-/* Ballast cases, judged exactly. The library is target/staticlib/libballast_c.a; `rt staticlib ballast_c` proves it and writes it.
+/* Ballast cases, judged exactly. The library is target/staticlib/libballast_c.a; `rt staticlib ballast_c` proves it and writes it, for x86-64.
+ *
+ * A case is a file of n moment equations over n tanks, with the tolerance of each figure, an exponent e (an answer Y means Y / 10^e tonnes) and
+ * the number of rounds, or with 0 rounds a trial answer of its own. A record is the judged answer. Both layouts, byte by byte, are in
+ * docs/FORMAT.md.
  *
  * Every function here is total: it may be given any lengths and any bytes, and a null pointer where the length is 0. A pointer with a
- * length above 0 points to that many elements, and a buffer shares no memory with what is read. A function allocates nothing, keeps no
- * state, calls nothing outside the library but memcpy and memset, and may be called from any thread.
+ * length above 0 points to that many elements and is aligned as its type asks (bytes anywhere, 16-bit figures at even addresses, 32-bit
+ * figures at multiples of 4), and a buffer shares no memory with what is read. A function allocates nothing, keeps no state, calls nothing
+ * outside the library but memcpy and memset, may be called from any thread, and needs at most BALLAST_STACK_NEED bytes of its stack.
  *
- * The result is one number. From 0 on it is a count; below 0 it is a refusal, -1 to -9, with document 01's number after the minus. After a
- * refusal no byte of the buffer has changed; after a count the bytes beyond that many are as they were.
+ * The result is one number. From 0 on it is a count; below 0 it is a refusal, -1 to -9. After a refusal no byte of the buffer has changed;
+ * after a count the bytes beyond that many are as they were.
  */
 #ifndef BALLAST_H
 #define BALLAST_H
@@ -17,40 +22,66 @@
 extern "C" {
 #endif
 
+/* Raised by every change of a room, of a layout or of what a result means. A program that was compiled with another number than the library's
+ * header has is to be compiled again. */
+#define BALLAST_VERSION 1
+
 #define BALLAST_MOST_TANKS 8
 #define BALLAST_RECORD_ROOM 180 /* the longest record, and the shortest buffer for one */
 #define BALLAST_CASE_ROOM 388   /* the longest case, and the shortest buffer for one */
 #define BALLAST_TEXT_ROOM 800   /* no printed verdict is longer, and the shortest buffer for one */
 
+/* Measured and not proved: examples/run calls each function on a painted stack and finds 4,808 bytes changed at most, as many as the compiled frames
+ * come to where a comparison of factors goes deepest. Where memcpy and memset are bound at their first call, what the loader needs for that comes
+ * on top. */
+#define BALLAST_STACK_NEED 8192
+
+/* Refusals, in the order in which a case is looked through: the first that applies is the one returned. */
 enum ballast_refusal {
-    BALLAST_BUFFER_TOO_SHORT = -1,
-    BALLAST_FIELD_MISSING = -2,
-    BALLAST_WRONG_TAG = -3,
-    BALLAST_WRONG_LENGTH = -4,
-    BALLAST_VALUE_CUT_SHORT = -5,
-    BALLAST_OUTSIDE_LIMITS = -6,
-    BALLAST_TRAILING_BYTES = -7,
-    BALLAST_ZERO_PIVOT = -8,
-    BALLAST_OUTSIDE_RANGE = -9
+    BALLAST_BUFFER_TOO_SHORT = -1, /* the buffer is shorter than its room above; nothing else was looked at */
+    BALLAST_FIELD_MISSING = -2,    /* fewer than three bytes are left where a field has to start */
+    BALLAST_WRONG_TAG = -3,        /* a field's tag is not the one due at its place */
+    BALLAST_WRONG_LENGTH = -4,     /* a field's length is not the one due; in writing, a list has not as many figures as are due */
+    BALLAST_VALUE_CUT_SHORT = -5,  /* the file ends within a field's value */
+    BALLAST_OUTSIDE_LIMITS = -6,   /* n, the exponent, the rounds or a figure is outside its limits */
+    BALLAST_TRAILING_BYTES = -7,   /* something follows the end of the case */
+    BALLAST_ZERO_PIVOT = -8,       /* at some step of the elimination every candidate for the pivot is zero; as the steps round, this does not
+                                      prove that the equations have no single answer */
+    BALLAST_OUTSIDE_RANGE = -9     /* on the way a figure of the answer left +-10,000,000, or a correction +-20,000,000 */
 };
 
-/* Reads a case and returns its number of tanks n, 1 to 8, or refuses it with 2 to 7. */
+/* Places in a record of n tanks; j and i count tanks and rows from 0. One byte each: */
+#define BALLAST_MET_AT 3                        /* 1 for met, 0 for not met */
+#define BALLAST_UNMET_AT 4                      /* the first unmet row, counted from 1, or 0 */
+#define BALLAST_ROUNDS_AT 5                     /* rounds used, 0 for a trial that the case brought */
+#define BALLAST_NONE_AT(n) (15 + 20 * (n))      /* 0 for a factor, 1 for none */
+#define BALLAST_DECIDES_AT(n) (16 + 20 * (n))   /* the row that decides the factor, counted from 1 */
+/* Numbers, the highest byte first: */
+#define BALLAST_ANSWER_AT(j) (9 + 4 * (j))                     /* 4 bytes, two's complement: tank j's answer Y */
+#define BALLAST_RESIDUAL_AT(n, i) (12 + 4 * (n) + 16 * (i))    /* 8 bytes, two's complement: row i's residual */
+#define BALLAST_REACH_AT(n, i) (20 + 4 * (n) + 16 * (i))       /* 8 bytes, unsigned: row i's reach */
+
+#define BALLAST_RECORD_LENGTH(n) (20 + 20 * (n))
+#define BALLAST_RECORD_TANKS(length) (((length) - 20) / 20) /* the n of a record of this length */
+
+/* Reads a case and returns its number of tanks n, 1 to 8, or refuses it with -2 to -7. */
 int64_t ballast_check_case(const uint8_t *input, size_t input_length);
 
 /* Works out the case's answer (or takes the trial that it brings), judges it, leaves the record at the front of out and returns the
  * record's length, 20 + 20 n. "Met" in the record means that figures within the case's tolerances balance exactly with that answer, "not
- * met" that none do. Refuses with 1 an out shorter than BALLAST_RECORD_ROOM, then with 2 to 9. */
+ * met" that none do. Refuses with -1 an out shorter than BALLAST_RECORD_ROOM, then with -2 to -9. */
 int64_t ballast_judge_case(const uint8_t *input, size_t input_length, uint8_t *out, size_t out_length);
 
-/* Writes the printed verdict of a case, as the program `verdict` prints it, to the front of out and returns its length; it ends in a line
- * feed, and no zero byte is written behind it. A refused case has a printed verdict too ("refused 6"), so the only refusal is 1, for an out shorter
- * than BALLAST_TEXT_ROOM. */
+/* Writes the printed verdict of a case, as the program `verdict` prints it, to the front of out and returns its length, which is above 0; it
+ * ends in a line feed, and no zero byte is written behind it. A refused case has a printed verdict too ("refused 6"), so the only refusal is
+ * -1, for an out shorter than BALLAST_TEXT_ROOM. */
 int64_t ballast_verdict_text(const uint8_t *input, size_t input_length, uint8_t *out, size_t out_length);
 
 /* Writes the case with these figures to the front of out and returns its length. Coefficients and their tolerances stand row after row,
- * n * n of each; the trial has n figures where rounds is 0, and none otherwise. Refuses with 1 an out shorter than BALLAST_CASE_ROOM, then
- * with 6 an n, exponent or rounds outside its limits, then with 4 a list whose count is not the one due, then with 6 any other figure
- * outside its limits. */
+ * n * n of each; the trial has n figures where rounds is 0, and none otherwise. Refuses with -1 an out shorter than BALLAST_CASE_ROOM, then
+ * with -6 an n (1 to 8), exponent (0 to 3) or rounds (0 to 8) outside its limits, then with -4 a list whose count is not the one due, then
+ * with -6 any other figure outside its limits: coefficients +-32,767, their tolerances 0 to 32,767, right sides +-1,000,000,000, theirs 0 to
+ * 1,000,000,000, trial figures +-10,000,000. */
 int64_t ballast_write_case(size_t n, size_t exponent, size_t rounds,
                            const int16_t *coefficients, size_t coefficient_count,
                            const uint16_t *tolerances, size_t tolerance_count,

@@ -6,7 +6,14 @@
 
 #include "ballast.h"
 
-_Static_assert(BALLAST_RECORD_ROOM == 20 + 20 * BALLAST_MOST_TANKS, "the longest record");
+_Static_assert(BALLAST_RECORD_ROOM == BALLAST_RECORD_LENGTH(BALLAST_MOST_TANKS), "the longest record");
+_Static_assert(BALLAST_RECORD_TANKS(BALLAST_RECORD_LENGTH(5)) == 5, "a record's length tells its tanks");
+/* Each field is behind the one before it, with its tag and length of three bytes. */
+_Static_assert(BALLAST_ANSWER_AT(0) == BALLAST_ROUNDS_AT + 1 + 3, "the answer is behind the verdict");
+_Static_assert(BALLAST_RESIDUAL_AT(5, 0) == BALLAST_ANSWER_AT(5) + 3, "the rows are behind the answer");
+_Static_assert(BALLAST_REACH_AT(5, 4) == BALLAST_RESIDUAL_AT(5, 4) + 8, "a row's reach is behind its residual");
+_Static_assert(BALLAST_NONE_AT(5) == BALLAST_REACH_AT(5, 4) + 8 + 3, "the factor is behind the rows");
+_Static_assert(BALLAST_RECORD_LENGTH(5) == BALLAST_DECIDES_AT(5) + 1 + 3, "the end is behind the factor");
 _Static_assert(BALLAST_CASE_ROOM == 6 + BALLAST_MOST_TANKS * (11 + 4 * BALLAST_MOST_TANKS) + (3 + 4 * BALLAST_MOST_TANKS) + 3, "the longest case");
 
 enum { ROOM = 1000, FILLER = 0xA5 };
@@ -71,6 +78,10 @@ static void check_judging(void)
     expect(untouched(out, 0), "a refused judging changes no byte");
     expect(ballast_judge_case(input, (size_t)length, out, BALLAST_RECORD_ROOM) == sizeof record, "the record has 40 bytes");
     expect(memcmp(out, record, sizeof record) == 0, "the record of document 01");
+    expect(out[BALLAST_MET_AT] == 1 && out[BALLAST_UNMET_AT] == 0 && out[BALLAST_ROUNDS_AT] == 1, "met, no unmet row, one round");
+    expect(out[BALLAST_ANSWER_AT(0) + 3] == 0xFC && out[BALLAST_RESIDUAL_AT(1, 0) + 7] == 0 && out[BALLAST_REACH_AT(1, 0) + 7] == 0,
+           "the answer -4, no residual and no reach");
+    expect(out[BALLAST_NONE_AT(1)] == 0 && out[BALLAST_DECIDES_AT(1)] == 1, "a factor, of row 1");
     expect(untouched(out, sizeof record), "bytes beyond the record stay");
 }
 

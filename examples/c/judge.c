@@ -4,9 +4,6 @@
 
 #include "ballast.h"
 
-/* Where a record's parts stand (docs/FORMAT.md). */
-enum { MET_AT = 3, UNMET_AT = 4, ROUNDS_AT = 5, ANSWER_AT = 9, RECORD_BASE = 20, RECORD_PER_TANK = 20 };
-
 static uint64_t big_endian(const uint8_t *bytes, size_t count)
 {
     uint64_t value = 0;
@@ -17,13 +14,13 @@ static uint64_t big_endian(const uint8_t *bytes, size_t count)
 
 static int32_t answer(const uint8_t *record, size_t tank)
 {
-    return (int32_t)big_endian(record + ANSWER_AT + 4 * tank, 4);
+    return (int32_t)big_endian(record + BALLAST_ANSWER_AT(tank), 4);
 }
 
 static void print_record(const uint8_t *record, size_t length)
 {
-    size_t n = (length - RECORD_BASE) / RECORD_PER_TANK;
-    printf("%s row %d rounds %d", record[MET_AT] ? "met" : "unmet", record[UNMET_AT], record[ROUNDS_AT]);
+    size_t n = BALLAST_RECORD_TANKS(length);
+    printf("%s row %d rounds %d", record[BALLAST_MET_AT] ? "met" : "unmet", record[BALLAST_UNMET_AT], record[BALLAST_ROUNDS_AT]);
     for (size_t tank = 0; tank < n; tank++)
         printf(" %" PRId32, answer(record, tank));
     printf("\n");

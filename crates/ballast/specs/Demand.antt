@@ -1,18 +1,20 @@
--- The third demand, in one piece, about the case's figures and the bytes that the call left. Definitions only. Assumes nothing.
-use mathlib.Core.Path.{_≡_}
-use mathlib.Core.List.{List}
+-- Definitions only.
+-- The third demand, in one piece, about the case's figures and the bytes that the call left.
 use Prim.Native.Nat.{ℕ, _<_}
-use lib.ListN.{getD, take}
 use lib.IntN.{pos}
+use lib.ListN.{getD, take}
+use mathlib.Core.List.{List}
+use mathlib.Core.Path.{_≡_}
+use Rattle.judge.specs.Finding.{Justified}
+use Rattle.judge.specs.System.{Trial}
+use Rattle.outcome.specs.CallResult.{callResult}
+use Rattle.outcome.specs.CallResult.{callResult}
 use Rattle.outcome.specs.declared.Outcome.{Outcome}
 use Rattle.outcome.specs.declared.Outcome.the-variants.{Count}
 use Rattle.casefile.specs.Case.{Case}
-use Rattle.casefile.specs.Decode.{accepted, decode, stored}
-use Rattle.casefile.specs.Write.{leaves}
-use Rattle.judge.specs.System.{Trial}
-use Rattle.judge.specs.Finding.{Justified}
+use Rattle.casefile.specs.Decode.{accepted, decode}
 use Rattle.recordfile.specs.ReadOff.{recordedRounds, recordedAnswer, recordedFinding}
-use Rattle.ballast.specs.Call.{scaleOf, systemOf, worked, call}
+use Rattle.ballast.specs.Call.{scaleOf, systemOf, caseSolution, judgeResult}
 
 -- the answer that a record's bytes hold, over the case's scale
 abbrev pub recorded : Case → List ℕ → Trial
@@ -21,9 +23,9 @@ recorded c bytes = record { n = c .n; D = scaleOf (c .exponent); Y = recordedAns
 -- a finished case and its record: the recorded answer and rounds are those of the trial brought or of the steps, and all that the bytes say
 -- of that answer is justified: met, the changes they yield, the named row, the least factor, and none
 pub record Finished (c : Case) (bytes : List ℕ) : Type 0 where
-  pub answer : (j : ℕ) → j < c .n → recordedAnswer bytes j ≡ getD (worked (stored c) .trial) j (pos 0)
-  pub rounds : recordedRounds bytes ≡ worked (stored c) .rounds
-  pub justified : Justified (systemOf (stored c)) (recorded c bytes) (recordedFinding (c .n) bytes)
+  pub answer : (j : ℕ) → j < c .n → recordedAnswer bytes j ≡ getD (caseSolution c .trial) j (pos 0)
+  pub rounds : recordedRounds bytes ≡ caseSolution c .rounds
+  pub justified : Justified (systemOf c) (recorded c bytes) (recordedFinding (c .n) bytes)
 
 -- "a case is finished when the call .. returns a count and no refusal, and its record is that many bytes, as the call left them at the
 -- buffer's front"
@@ -37,5 +39,5 @@ Demanded input outcome buffer = (m : ℕ) → outcome ≡ Count m → Demand inp
 
 -- what the call promises: its answer and the buffer are those of the definition, and every record is justified
 pub record Promise (input entry : List ℕ) (outcome : Outcome) (exit : List ℕ) : Type 0 where
-  pub called : leaves outcome exit ≡ call input entry
+  pub called : callResult outcome exit ≡ judgeResult input entry
   pub demand : Demanded input outcome exit

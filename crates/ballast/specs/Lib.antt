@@ -3,3 +3,4 @@ pub mod CallLaws
 pub mod Demand
 pub mod Bounds
 pub mod Theorem
+pub mod AnswerBounds

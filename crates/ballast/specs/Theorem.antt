@@ -1,57 +1,64 @@
 -- The third demand holds of every record that the call leaves: what is read off the bytes is the judgement of the recorded answer, and that is
 -- justified by the theorem of Oettli and Prager. Assumes nothing.
-use mathlib.Core.Path.{_≡_, refl, sym, ap, subst, _∙_}
-use mathlib.Core.List.{List}
 use Prim.Native.Nat.{ℕ, zero, suc, _^_, _≤_, _<_}
-use native.Mathlib.Omega.{arith}
-use lib.ListN.{length, getD}
 use lib.IntN.{ℤ, pos}
+use lib.ListN.{length, getD}
+use mathlib.Core.List.{List}
+use mathlib.Core.Path.{_≡_, refl, sym, ap, subst, _∙_}
 use mir.Syntax.{w32, w64}
 use mir.Val.{SFits}
+use native.Mathlib.Omega.{arith}
 use Rattle.limits.specs.Limits.{mostTanks, mostRounds}
 use Rattle.integers.specs.Size.{sfits-size}
+use Rattle.judge.specs.Agreement.{judgement-agrees, agrees-with}
+use Rattle.judge.specs.Finding.{Justified, Agrees}
+use Rattle.judge.specs.Judgement.{judgement}
+use Rattle.judge.specs.Laws.{unmet-le, deciding-below}
+use Rattle.judge.specs.System.{System, Trial, row, trial, residual, reach}
+use Rattle.judge.specs.Theorem.{justified}
+use Rattle.solver.specs.Answers.{answer, rounds}
+use Rattle.solver.specs.Claims.{KeptAnswer}
+use Rattle.solver.specs.Sizes.{residual-le}
+use Rattle.solver.specs.declared.Solution.{Solution}
+use Rattle.outcome.specs.CallResult.{checkRoom, callResult}
+use Rattle.outcome.specs.CallResultLaws.{WrittenCount, written-count}
+use Rattle.outcome.specs.Laws.{first-right}
+use Rattle.outcome.specs.Outcome.{reportedOutcome}
 use Rattle.outcome.specs.declared.Outcome.{Outcome}
-use Rattle.outcome.specs.declared.Status.the-variants.{Accepted}
-use Rattle.ballast.specs.declared.Answer.{Answer as FileAnswer}
 use Rattle.outcome.specs.declared.Outcome.the-variants.{Count}
+use Rattle.outcome.specs.declared.Status.the-variants.{Accepted}
 use Rattle.casefile.specs.Case.{Case}
 use Rattle.casefile.specs.CaseLaws.{Good, decode-good}
-use Rattle.casefile.specs.Decode.{decode, stored}
-use Rattle.outcome.specs.Outcome.{said}
-use Rattle.outcome.specs.Laws.{first-right}
-use Rattle.casefile.specs.Write.{inRoom, leaves}
-use Rattle.casefile.specs.WriteLaws.{Filed, filed-count}
-use Rattle.judge.specs.System.{System, Trial, row, trial, residual, reach}
-use Rattle.judge.specs.Judgement.{judgement}
-use Rattle.judge.specs.Finding.{Justified, Agrees}
-use Rattle.judge.specs.Laws.{unmet-le, deciding-below}
-use Rattle.judge.specs.Agreement.{judgement-agrees, agrees-with}
-use Rattle.judge.specs.Theorem.{justified}
-use Rattle.recordfile.specs.Layout.{recordOf, longestRecord, RecordFits}
+use Rattle.casefile.specs.Decode.{decode}
+use Rattle.casefile.specs.StoredLaws.{getD-padded}
 use Rattle.recordfile.specs.Laws.{length-record, longest-record}
+use Rattle.recordfile.specs.Layout.{recordOf, longestRecord, RecordFits}
 use Rattle.recordfile.specs.ReadOff.{recordedAnswer, recordedFinding}
 use Rattle.recordfile.specs.ReadOffLaws.{recorded-met, recorded-unmet, recorded-rounds, recorded-answer, recorded-residual, recorded-reach, recorded-none, recorded-decides}
-use Rattle.solver.specs.declared.Solution.{Solution}
-use Rattle.solver.specs.declared.Status.the-variants.{Answered}
-use Rattle.solver.specs.Claims.{Answer}
-use Rattle.solver.specs.Answers.{answer, rounds}
-use Rattle.solver.specs.Sizes.{residual-le}
-use Rattle.ballast.specs.Call.{scaleOf, systemOf, worked-in, worked, answer-of, record-of, finished, call, Workable}
-use Rattle.ballast.specs.CallLaws.{Answering, answering}
+use Rattle.ballast.specs.Bounds.{limits, ranges, trial-figures, reach-le}
+use Rattle.ballast.specs.Call.{scaleOf, systemOf, caseSolutionWith, caseSolution, inPlaces, answerOf, answerRecord, recordResult, judgeResult}
+use Rattle.ballast.specs.CallLaws.{trial-padded, Answering, answering}
 use Rattle.ballast.specs.Demand.{Finished, Demand, Promise}
-use Rattle.ballast.specs.Bounds.{limits, trial-figures, reach-le}
+use Rattle.ballast.specs.declared.Answer.{Answer as FileAnswer}
 
 -- ---- the answer, brought or worked out: within its limits, and beside its own judgement
 
 module _ (c : Case) (g : Good c) where
-  worked-in-answer : (k : ℕ) → Answer (systemOf (stored c)) (scaleOf (c .exponent)) (worked-in k (stored c))
-  unfolding stored
-  worked-in-answer zero = record { figures = trial-figures c g; judgement-is = refl }
-  worked-in-answer (suc k) = answer (systemOf (stored c)) (scaleOf (c .exponent)) (suc k)
+  solution-with-answer : (k : ℕ) → KeptAnswer (systemOf c) (scaleOf (c .exponent)) (caseSolutionWith k c)
+  solution-with-answer zero = record { figures = trial-figures c g; judgement-is = refl }
+  solution-with-answer (suc k) = answer (systemOf c) (scaleOf (c .exponent)) (suc k)
 
-  worked-answer : Answer (systemOf (stored c)) (scaleOf (c .exponent)) (worked (stored c))
-  unfolding worked
-  worked-answer = worked-in-answer (stored c .rounds)
+  solution-answer : KeptAnswer (systemOf c) (scaleOf (c .exponent)) (caseSolution c)
+  unfolding caseSolution
+  solution-answer = solution-with-answer (c .rounds)
+
+  -- in its places too
+  pub placed-answer : KeptAnswer (systemOf c) (scaleOf (c .exponent)) (inPlaces (caseSolution c))
+  placed-answer =
+      record {
+        figures = λ i. rw (getD-padded (pos 0) mostTanks (caseSolution c .trial) i) (solution-answer .figures i);
+        judgement-is = solution-answer .judgement-is ∙ ap (judgement (systemOf c)) (sym (trial-padded (c .n) (scaleOf (c .exponent)) (caseSolution c .trial)));
+      }
 
 -- ---- what is read off a record of n rows
 
@@ -92,37 +99,39 @@ module _ (s : System) (D rounds : ℕ) (Y : List ℤ) (h : 0 < s .n) (k : s .n �
 
 module _ (c : Case) (g : Good c) where
   abbrev a : Solution
-  a = worked (stored c)
+  a = inPlaces (caseSolution c)
+
+  abbrev D′ : ℕ
+  D′ = scaleOf (c .exponent)
 
   fits-figure : (i : ℕ) → SFits w32 (getD (a .trial) i (pos 0))
-  fits-figure i = sfits-size (omega (arith, worked-answer c g .figures i))
+  fits-figure i = sfits-size (omega (arith, placed-answer c g .figures i))
 
-  fits-residual : (i : ℕ) → SFits w64 (residual (row (systemOf (stored c)) i) (trial (c .n) (scaleOf (c .exponent)) (a .trial)))
-  unfolding stored
-  fits-residual i =
-      sfits-size (omega (arith, residual-le (systemOf (stored c)) (scaleOf (c .exponent)) (a .trial) (limits c g) (worked-answer c g .figures) i))
+  fits-residual : (i : ℕ) → SFits w64 (residual (row (systemOf c) i) (trial (c .n) D′ (a .trial)))
+  fits-residual i = sfits-size (omega (arith, residual-le (systemOf c) D′ (a .trial) (limits c g) (ranges c g) (placed-answer c g .figures) i))
 
   -- the bytes of its record, by the judgement of the kept answer
   finished-case : Finished c (recordOf (c .n) (a .rounds) (a .trial) (a .judgement))
-  unfolding stored
   finished-case =
-      rw (worked-answer c g .judgement-is)
+      rw (placed-answer c g .judgement-is)
       (record {
-        answer = λ j l. answered (systemOf (stored c)) (scaleOf (c .exponent)) (a .rounds) (a .trial) (omega (arith, g .limits .least)) (g .limits .small) fits-figure fits-residual (reach-le c g (a .trial) (worked-answer c g .figures)) j l;
-        rounds = recorded-rounds (c .n) (a .rounds) (a .trial) (judgement (systemOf (stored c)) (trial (c .n) (scaleOf (c .exponent)) (a .trial)));
-        justified = record-justified (systemOf (stored c)) (scaleOf (c .exponent)) (a .rounds) (a .trial) (omega (arith, g .limits .least)) (g .limits .small) fits-figure fits-residual (reach-le c g (a .trial) (worked-answer c g .figures));
+        answer = λ j l.
+            answered (systemOf c) D′ (a .rounds) (a .trial) (omega (arith, g .limits .least)) (g .limits .small) fits-figure fits-residual (reach-le c g (a .trial) (placed-answer c g .figures)) j l
+            ∙ getD-padded (pos 0) mostTanks (caseSolution c .trial) j;
+        rounds = recorded-rounds (c .n) (a .rounds) (a .trial) (judgement (systemOf c) (trial (c .n) D′ (a .trial)));
+        justified = record-justified (systemOf c) D′ (a .rounds) (a .trial) (omega (arith, g .limits .least)) (g .limits .small) fits-figure fits-residual (reach-le c g (a .trial) (placed-answer c g .figures));
       })
 
 -- ---- the call
 
 -- a count comes only from an answer, and the bytes at the buffer's front are its record
-module _ (input out : List ℕ) (m : ℕ) (e : call input out .outcome ≡ said (Count m)) where
+module _ (input out : List ℕ) (m : ℕ) (e : judgeResult input out .outcome ≡ reportedOutcome (Count m)) where
   abbrev x : FileAnswer
-  x = answer-of (decode input)
+  x = answerOf (decode input)
 
-  counted : Filed (inRoom longestRecord (length out) (x .status)) (record-of x) out m
-  unfolding call finished
-  counted = filed-count (inRoom longestRecord (length out) (x .status)) (record-of x) out m e
+  counted : WrittenCount (checkRoom longestRecord (length out) (x .solution .status)) (answerRecord x) out m
+  unfolding judgeResult recordResult
+  counted = written-count (checkRoom longestRecord (length out) (x .solution .status)) (answerRecord x) out m e
 
   from : Answering (decode input)
   from = answering (decode input) (search (counted .accepted, first-right))
@@ -132,14 +141,14 @@ module _ (input out : List ℕ) (m : ℕ) (e : call input out .outcome ≡ said 
 
   -- no count is above the longest record
   pub count-le : m ≤ longestRecord
-  unfolding answer-of stored
+  unfolding answerOf
   count-le =
       let l : x .n ≤ mostTanks = rw (from .decoded) (fine .limits .small) in
-      omega (arith, counted .count, length-record (x .n) (x .rounds) (x .trial) (x .judgement), longest-record (x .n) l)
+      omega (arith, counted .count, length-record (x .n) (x .solution .rounds) (x .solution .trial) (x .solution .judgement), longest-record (x .n) l)
 
   -- every count that the call returns is of a finished case
-  pub demanded : Demand input (call input out .buffer) m
-  unfolding call finished answer-of stored
+  pub demanded : Demand input (judgeResult input out .buffer) m
+  unfolding judgeResult recordResult answerOf
   demanded =
       record {
         case = from .figures;
@@ -148,34 +157,32 @@ module _ (input out : List ℕ) (m : ℕ) (e : call input out .outcome ≡ said 
       }
 
 -- so a call that answers and leaves what the definition says keeps its promise
-pub promised : (input entry : List ℕ) (o : Outcome) (exit : List ℕ) → leaves o exit ≡ call input entry → Promise input entry o exit
+pub promised : (input entry : List ℕ) (o : Outcome) (exit : List ℕ) → callResult o exit ≡ judgeResult input entry → Promise input entry o exit
 promised input entry o exit e =
     record {
       called = e;
       demand = λ m q.
-          subst (λ b. Demand input b m) (ap (λ w. w .buffer) (sym e)) (demanded input entry m (ap (λ w. w .outcome) (sym e) ∙ ap said q));
+          subst (λ b. Demand input b m) (ap (λ w. w .buffer) (sym e)) (demanded input entry m (ap (λ w. w .outcome) (sym e) ∙ ap reportedOutcome q));
     }
 
 -- ---- what a record asks of an answer: rows and rounds of a byte each
 
 module _ (c : Case) (g : Good c) where
-  rounds-le : (k : ℕ) → k ≤ mostRounds → worked-in k (stored c) .status ≡ Answered → worked-in k (stored c) .rounds ≤ mostRounds
-  unfolding stored
+  rounds-le : (k : ℕ) → k ≤ mostRounds → caseSolutionWith k c .status ≡ Accepted → caseSolutionWith k c .rounds ≤ mostRounds
   rounds-le zero h e = omega arith
-  rounds-le (suc k) h e = omega (arith, rounds (systemOf (stored c)) (scaleOf (c .exponent)) (suc k) (omega arith) e .few)
+  rounds-le (suc k) h e = omega (arith, rounds (systemOf c) (scaleOf (c .exponent)) (suc k) (omega arith) e .few)
 
-  pub recordable : (room : ℕ) → longestRecord ≤ room → worked (stored c) .status ≡ Answered
-      → RecordFits (c .n) (worked (stored c) .rounds) (worked (stored c) .judgement) room
-  unfolding worked stored
+  pub recordable : (room : ℕ) → longestRecord ≤ room → caseSolution c .status ≡ Accepted → RecordFits (c .n) (caseSolution c .rounds) (caseSolution c .judgement) room
+  unfolding caseSolution
   recordable room h e =
       let r = rounds-le (c .rounds) (g .limits .rounds-small) e in
-      let j = worked-answer c g .judgement-is in
+      let j = solution-answer c g .judgement-is in
       let u = ap (λ k. k .unmet) j in
       let d = ap (λ k. k .decides) j in
-      let t = trial (c .n) (scaleOf (c .exponent)) (worked (stored c) .trial) in
-      let a = judgement-agrees (systemOf (stored c)) t (omega (arith, g .limits .least)) (g .limits .small) in
-      let ul = unmet-le (systemOf (stored c)) t in
-      let dl = deciding-below (systemOf (stored c)) t (omega (arith, g .limits .least)) in
+      let t = trial (c .n) (scaleOf (c .exponent)) (caseSolution c .trial) in
+      let a = judgement-agrees (systemOf c) t (omega (arith, g .limits .least)) (g .limits .small) in
+      let ul = unmet-le (systemOf c) t in
+      let dl = deciding-below (systemOf c) t (omega (arith, g .limits .least)) in
       let small = g .limits .small in
       record {
         rows = g .limits .small;
@@ -185,14 +192,10 @@ module _ (c : Case) (g : Good c) where
         enough = omega arith;
       }
 
-  pub workable : Workable (stored c)
-  unfolding stored
-  workable = record { rows = g .limits .small; exponent-small = g .limits .exponent-small; limits = limits c g }
-
 -- an answer that was accepted fits a record
-pub answer-recordable : (input : List ℕ) (x : FileAnswer) (room : ℕ) → x ≡ answer-of (decode input) → x .status ≡ Accepted → longestRecord ≤ room
-    → RecordFits (x .n) (x .rounds) (x .judgement) room
-unfolding answer-of stored
+pub answer-recordable : (input : List ℕ) (x : FileAnswer) (room : ℕ) → x ≡ answerOf (decode input) → x .solution .status ≡ Accepted → longestRecord ≤ room
+    → RecordFits (x .n) (x .solution .rounds) (x .solution .judgement) room
+unfolding answerOf
 answer-recordable input x room q t h =
-    let k = answering (decode input) (ap (λ y. y .status) (sym q) ∙ t) in
+    let k = answering (decode input) (ap (λ y. y .solution .status) (sym q) ∙ t) in
     rw (q, k .decoded) (recordable (k .figures) (decode-good input (k .figures) (k .decoded)) room h (k .answered))

@@ -1,7 +1,7 @@
 // The call that takes a case and a result buffer and leaves the record.
 ghost use mathlib.Core.Path.{_≡_};
 ghost use Rattle.casefile.specs.Decode.{decode};
-ghost use Rattle.ballast.specs.Call.{status-of, answer-with, no-answer, answer-of};
+ghost use Rattle.ballast.specs.Call.{trialAnswer, noAnswer, answerOf, AnswerIs};
 ghost use Rattle.ballast.specs.Demand.{Promise};
 use judge::Judgement;
 use limits::MOST_TANKS;
@@ -10,18 +10,15 @@ use outcome::Refusal;
 use outcome::Status;
 use solver::Solution;
 
-// What a file's case comes to: whether it is refused, and the answer with the rounds used and its judgement.
+// What a file's case comes to: its answer with the rounds used and its judgement, or the refusal.
 pub struct Answer {
-    pub status: Status,
     pub n: usize,
     pub exponent: usize,
-    pub rounds: usize,
-    pub trial: [i32; MOST_TANKS],
-    pub judgement: Judgement,
+    pub solution: Solution,
 }
 
 fn refused(refusal: Refusal) -> Answer
-    ensures { λ r. ⌜ r ≡ no-answer refusal ⌝ }
+    ensures { λ r. ⌜ r ≡ noAnswer refusal ⌝ }
 {
     let trial = [0i32; MOST_TANKS];
     let residuals = [0i64; MOST_TANKS];
@@ -34,47 +31,39 @@ fn refused(refusal: Refusal) -> Answer
         residuals,
         reaches,
     };
-    Answer {
+    let solution = Solution {
         status: Status::Refused(refusal),
-        n: 0,
-        exponent: 0,
         rounds: 0,
         trial,
         judgement,
-    }
-}
-
-// Refusals 8 and 9, as the steps reach them.
-fn file_status(found: solver::Status) -> Status
-    ensures { λ r. ⌜ r ≡ status-of found ⌝ }
-{
-    match found {
-        solver::Status::Answered => Status::Accepted,
-        solver::Status::ZeroPivot => Status::Refused(Refusal::ZeroPivot),
-        solver::Status::OutsideRange => Status::Refused(Refusal::OutsideRange),
-    }
-}
-
-fn answered(n: usize, exponent: usize, solution: Solution) -> Answer
-    ensures { λ r. ⌜ r ≡ answer-with n exponent solution ⌝ }
-{
-    let found = solution.status;
-    let status = file_status(found);
-    let trial = solution.trial;
-    let judgement = solution.judgement;
+    };
     Answer {
-        status,
-        n,
-        exponent,
-        rounds: solution.rounds,
+        n: 0,
+        exponent: 0,
+        solution,
+    }
+}
+
+// The answer that a case brings, with no round used.
+fn given_trial(n: usize, exponent: usize, trial: [i32; MOST_TANKS], judgement: Judgement) -> Answer
+    ensures { λ r. ⌜ r ≡ trialAnswer n exponent trial judgement ⌝ }
+{
+    let solution = Solution {
+        status: Status::Accepted,
+        rounds: 0,
         trial,
         judgement,
+    };
+    Answer {
+        n,
+        exponent,
+        solution,
     }
 }
 
 // The answer of any bytes as a case, judged: the first refusal of 2 to 9, or the answer with its judgement. It writes no record.
 pub fn answer_case(input: &[u8]) -> Answer
-    ensures { λ r. ⌜ r ≡ answer-of (decode (now (input .entry))) ⌝ }
+    ensures { λ r. ⌜ AnswerIs r (answerOf (decode (now (input .entry)))) ⌝ }
 {
     let reading = case_reader::read_case(input);
     let status = reading.status;
@@ -95,14 +84,7 @@ pub fn answer_case(input: &[u8]) -> Answer
             &reading.case.right_tolerances,
             &trial,
         );
-        return Answer {
-            status: Status::Accepted,
-            n,
-            exponent,
-            rounds: 0,
-            trial,
-            judgement,
-        };
+        return given_trial(n, exponent, trial, judgement);
     }
     let solution = solver::solve(
         n,
@@ -113,7 +95,11 @@ pub fn answer_case(input: &[u8]) -> Answer
         &reading.case.right_tolerances,
         reading.case.rounds,
     );
-    answered(n, exponent, solution)
+    Answer {
+        n,
+        exponent,
+        solution,
+    }
 }
 
 // Judges a case: any bytes as input, and a result buffer of any length. It returns the record's length, with the record at the buffer's front and
@@ -125,10 +111,12 @@ pub fn judge_case(input: &[u8], out: &mut [u8]) -> Outcome
         return Outcome::Refused(Refusal::BufferTooShort);
     }
     let a = answer_case(input);
-    let status = a.status;
+    let solution = a.solution;
+    let status = solution.status;
     if let Status::Refused(refusal) = status {
         return Outcome::Refused(refusal);
     }
-    let trial = a.trial;
-    Outcome::Count(recordfile::write_record(out, a.n, a.rounds, &trial, a.judgement))
+    let trial = solution.trial;
+    let judgement = solution.judgement;
+    Outcome::Count(recordfile::write_record(a.n, solution.rounds, &trial, judgement, out))
 }

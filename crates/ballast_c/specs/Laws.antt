@@ -1,65 +1,62 @@
 -- The C functions' definitions as the code meets them: every count is small, and each call behind them gives what they promise. Assumes nothing.
-use mathlib.Core.Path.{_≡_, refl, sym, ap, _∙_}
-use mathlib.Core.List.{List, _++_}
-use Prim.Native.Nat.{ℕ, _<_, _≤_}
-use native.Mathlib.Omega.{arith}
-use lib.ListN.{length, take, drop}
-use lib.Seq.{length-take-le}
+use Prim.Native.Nat.{ℕ, _≤_}
 use lib.IntN.{ℤ}
-use Rattle.outcome.specs.declared.Refusal.{Refusal}
-use Rattle.outcome.specs.declared.Refusal.the-variants.{BufferTooShort}
+use mathlib.Core.List.{List}
+use mathlib.Core.Path.{_≡_, sym, ap, _∙_}
+use native.Mathlib.Omega.{arith}
+use Rattle.outcome.specs.CallResult.{callResult}
+use Rattle.outcome.specs.CallResult.{callResult}
+use Rattle.outcome.specs.Laws.{no-count}
+use Rattle.outcome.specs.Outcome.{reportedOutcome}
 use Rattle.outcome.specs.declared.Outcome.{Outcome}
 use Rattle.outcome.specs.declared.Outcome.the-variants.{Count, Refused}
-use Rattle.buffer.specs.Buffer.{Wrote}
-use Rattle.buffer.specs.Laws.{holds, within-front}
-use Rattle.outcome.specs.declared.Status.the-variants.{Accepted}
-use Rattle.outcome.specs.Outcome.{said}
-use Rattle.outcome.specs.Laws.{no-count}
-use Rattle.casefile.specs.declared.Case.{Case}
-use Rattle.casefile.specs.Case.{Case as Figures}
+use Rattle.outcome.specs.declared.Refusal.{Refusal}
+use Rattle.casefile.specs.Case.{Case}
+use Rattle.casefile.specs.CaseLaws.{decode-good}
 use Rattle.casefile.specs.Decode.{Decoded, refused, decode, stored}
 use Rattle.casefile.specs.StoredLaws.{Whole}
-use Rattle.casefile.specs.CaseLaws.{decode-good}
-use Rattle.casefile.specs.Write.{leaves, write}
-use Rattle.casefile.specs.WriteLaws.{filed-short, filed-whole, count-le as case-count-le}
-use Rattle.report.specs.Text.{text-room}
-use Rattle.verdict_text.specs.Verdict.{verdict-of}
-use Rattle.ballast.specs.Call.{answer-of}
+use Rattle.casefile.specs.Write.{write}
+use Rattle.casefile.specs.WriteLaws.{count-le as case-count-le}
+use Rattle.casefile.specs.declared.StoredCase.{StoredCase}
 use Rattle.ballast.specs.Demand.{Promise}
 use Rattle.ballast.specs.Theorem.{count-le}
-use Rattle.ballast_c.specs.Result.{number, Small, Returned, returned, number-count}
-use Rattle.ballast_c.specs.Calls.{tanks, text-call, Judged}
+use Rattle.report.specs.Text.{textRoom}
+use Rattle.verdict_text.specs.Verdict.{textCall}
+use Rattle.verdict_text.specs.VerdictLaws.{text-count-le}
+use Rattle.ballast_c.specs.Calls.{tankCount, Judged}
+use Rattle.ballast_c.specs.Result.{resultNumber, CountFits, Returned}
+use Rattle.ballast_c.specs.ResultLaws.{returned, number-count}
 
 -- ---- the result number
 
-pub small-refused : (r : Refusal) → Small (Refused r)
-small-refused r = record { count = λ m e. no-count r m (ap said e) }
+pub small-refused : (r : Refusal) → CountFits (Refused r)
+small-refused r = record { count = λ m e. no-count r m (ap reportedOutcome e) }
 
-pub small-count : (k : ℕ) → k ≤ text-room → Small (Count k)
+pub small-count : (k : ℕ) → k ≤ textRoom → CountFits (Count k)
 small-count k h = record { count = λ m e. let q : k ≡ m = cc in omega arith }
 
 -- ---- reading
 
-pub tanks-refused : (d : Decoded) (r : Refusal) → d ≡ refused r → Refused r ≡ tanks d
-unfolding tanks
+pub tanks-refused : (d : Decoded) (r : Refusal) → d ≡ refused r → Refused r ≡ tankCount d
+unfolding tankCount
 tanks-refused d r e = rw e
 
-pub tanks-accepted : (d : Decoded) (c : Case) → Whole d c → Count (c .n) ≡ tanks d
-unfolding tanks stored
+pub tanks-accepted : (d : Decoded) (c : StoredCase) → Whole d c → Count (c .n) ≡ tankCount d
+unfolding tankCount stored
 tanks-accepted d c w = rw (w .held, w .decoded)
 
-pub few-tanks : (input : List ℕ) (c : Case) → Whole (decode input) c → c .n ≤ text-room
+pub few-tanks : (input : List ℕ) (c : StoredCase) → Whole (decode input) c → c .n ≤ textRoom
 unfolding stored
 few-tanks input c w = rw (w .held) (omega (arith, decode-good input (w .figures) (w .decoded) .limits .small))
 
 -- ---- judging
 
 module _ (input entry exit : List ℕ) (o : Outcome) (p : Promise input entry o exit) where
-  pub judged-small : Small o
+  pub judged-small : CountFits o
   judged-small =
-      record { count = λ m e. omega (arith, count-le input entry m (ap (λ w. w .outcome) (sym (p .called)) ∙ ap said e)) }
+      record { count = λ m e. omega (arith, count-le input entry m (ap (λ w. w .outcome) (sym (p .called)) ∙ ap reportedOutcome e)) }
 
-  pub judged : (r : ℤ) → r ≡ number o → Judged input entry r exit
+  pub judged : (r : ℤ) → r ≡ resultNumber o → Judged input entry r exit
   judged r e =
       record {
         called = returned o (p .called) r e;
@@ -68,41 +65,19 @@ module _ (input entry exit : List ℕ) (o : Outcome) (p : Promise input entry o 
 
 -- ---- writing
 
-module _ (c : Figures) (entry exit : List ℕ) (o : Outcome) (p : leaves o exit ≡ write c entry) where
-  pub written-small : Small o
+module _ (c : Case) (entry exit : List ℕ) (o : Outcome) (p : callResult o exit ≡ write c entry) where
+  pub written-small : CountFits o
   written-small =
       record {
         count = λ m e.
-            omega (arith, case-count-le c entry m (ap (λ x. x .outcome) (sym p) ∙ ap said e));
+            omega (arith, case-count-le c entry m (ap (λ x. x .outcome) (sym p) ∙ ap reportedOutcome e));
       }
 
-  pub written : (r : ℤ) → r ≡ number o → Returned r exit (write c entry)
+  pub written : (r : ℤ) → r ≡ resultNumber o → Returned r exit (write c entry)
   written r e = returned o p r e
 
--- ---- the printed verdict, into the buffer's first bytes
+-- ---- the printed verdict
 
-module _ (input out : List ℕ) where
-  pub text-short : (r : ℤ) → length out < text-room → r ≡ number (Refused BufferTooShort) → Returned r out (text-call input out)
-  unfolding text-call
-  text-short r h e = returned (Refused BufferTooShort) (filed-short text-room Accepted (verdict-of text-room (answer-of (decode input))) out h) r e
-
-  module _ (count : ℕ) (after : List ℕ) (h : text-room ≤ length out) (same : length after ≡ length (take text-room out))
-      (p : Wrote (verdict-of (length (take text-room out)) (answer-of (decode input))) 0 (take text-room out) count after) where
-    abbrev t : List ℕ
-    t = verdict-of text-room (answer-of (decode input))
-
-    front : Wrote t 0 (take text-room out) count after
-    front = rw (length-take-le text-room out h) at p
-
-    -- what was written over a part's front is no longer than the part
-    pub text-le : count ≤ text-room
-    text-le =
-        omega (arith, front .place, same, length-take-le text-room out h, ap length (front .bytes), holds (length t) t (take text-room out) refl)
-
-    pub text-written : (r : ℤ) → r ≡ number (Count count) → Returned r (after ++ drop text-room out) (text-call input out)
-    unfolding text-call
-    text-written r e =
-        returned (Count count)
-        (filed-whole text-room Accepted t out h refl
-        (record { place = front .place; bytes = rw (front .bytes) (within-front text-room t out (omega (arith, front .place, text-le)) h) }))
-        r e
+pub text-small : (input entry exit : List ℕ) (o : Outcome) → callResult o exit ≡ textCall input entry → CountFits o
+text-small input entry exit o p =
+    record { count = λ m e. omega (arith, text-count-le input entry m (ap (λ x. x .outcome) (sym p) ∙ ap reportedOutcome e)) }

@@ -1,3 +1,4 @@
 pub mod Result
+pub mod ResultLaws
 pub mod Calls
 pub mod Laws

@@ -1,17 +1,18 @@
 // What a program in C or Rust links: the calls on numbers and byte slices, each with one result number. `include/ballast.h` declares them.
 ghost use mathlib.Core.Path.{_≡_};
-ghost use Rattle.casefile.specs.Case.{given};
+ghost use Rattle.casefile.specs.Case.{caseOfLists};
 ghost use Rattle.casefile.specs.Decode.{decode};
 ghost use Rattle.casefile.specs.Write.{write};
-ghost use Rattle.ballast_c.specs.Result.{number, Small, Returned};
-ghost use Rattle.ballast_c.specs.Calls.{tanks, text-call, Judged};
+ghost use Rattle.verdict_text.specs.Verdict.{textCall};
+ghost use Rattle.ballast_c.specs.Calls.{tankCount, Judged};
+ghost use Rattle.ballast_c.specs.Result.{resultNumber, CountFits, Returned};
 use outcome::Outcome;
 use outcome::Status;
 
 // A count, or a refusal's number below zero.
 fn result(outcome: Outcome) -> i64
-    requires { ⌜ Small outcome ⌝ }
-    ensures { λ r. ⌜ r ≡ number outcome ⌝ }
+    requires { ⌜ CountFits outcome ⌝ }
+    ensures { λ r. ⌜ r ≡ resultNumber outcome ⌝ }
 {
     match outcome {
         Outcome::Count(count) => count as i64,
@@ -22,7 +23,7 @@ fn result(outcome: Outcome) -> i64
 // The number of tanks of a case, or the reader's refusal.
 #[no_mangle]
 pub extern "C" fn ballast_check_case(input: &[u8]) -> i64
-    ensures { λ r. ⌜ r ≡ number (tanks (decode (now (input .entry)))) ⌝ }
+    ensures { λ r. ⌜ r ≡ resultNumber (tankCount (decode (now (input .entry)))) ⌝ }
 {
     let reading = case_reader::read_case(input);
     let status = reading.status;
@@ -41,16 +42,12 @@ pub extern "C" fn ballast_judge_case(input: &[u8], out: &mut [u8]) -> i64
     result(ballast::judge_case(input, out))
 }
 
-// Renders the printed verdict of a case. A buffer shorter than TEXT_ROOM is refused before the case is read.
+// Renders the printed verdict of a case into a buffer.
 #[no_mangle]
 pub extern "C" fn ballast_verdict_text(input: &[u8], out: &mut [u8]) -> i64
-    ensures { λ r. ⌜ Returned r (now (out .exit)) (text-call (now (input .entry)) (now (out .entry))) ⌝ }
+    ensures { λ r. ⌜ Returned r (now (out .exit)) (textCall (now (input .entry)) (now (out .entry))) ⌝ }
 {
-    if out.len() < report::TEXT_ROOM {
-        return result(Outcome::Refused(outcome::Refusal::BufferTooShort));
-    }
-    let count = verdict_text::verdict_text(input, &mut out[..report::TEXT_ROOM]);
-    result(Outcome::Count(count))
+    result(verdict_text::verdict_text(input, out))
 }
 
 // Writes a case into a buffer.
@@ -66,7 +63,7 @@ pub extern "C" fn ballast_write_case(
     trial: &[i32],
     out: &mut [u8],
 ) -> i64
-    ensures { λ r. ⌜ Returned r (now (out .exit)) (write (given n exponent rounds (now (coefficients .entry)) (now (tolerances .entry)) (now («right_sides» .entry)) (now («right_tolerances» .entry)) (now (trial .entry))) (now (out .entry))) ⌝ }
+    ensures { λ r. ⌜ Returned r (now (out .exit)) (write (caseOfLists n exponent rounds (now (coefficients .entry)) (now (tolerances .entry)) (now («right_sides» .entry)) (now («right_tolerances» .entry)) (now (trial .entry))) (now (out .entry))) ⌝ }
 {
     result(case_writer::write_case(
         n,

@@ -1,10 +1,11 @@
+-- Definitions only.
 -- Big-endian numbers of a stated count of bytes; the highest number and the bytes of a width.
 use Prim.Native.Nat.{ℕ, zero, suc, _+_, _*_, _-_, _/_, _%_, _^_}
-use mathlib.Core.Bool.{Bool, true}
-use mathlib.Core.Path.{_≡_}
-use mathlib.Core.List.{List, [], _∷_}
 use lib.Dec.{ltb}
 use lib.ListN.{length}
+use mathlib.Core.Bool.{Bool, true}
+use mathlib.Core.List.{List, [], _∷_}
+use mathlib.Core.Path.{_≡_}
 use mir.Syntax.{Width}
 use mir.Val.{bits, bytes as bytesOf}
 use Rattle.buffer.specs.Buffer.{all}
@@ -15,9 +16,9 @@ be [] = 0
 be (x ∷ s) = x * 256 ^ length s + be s
 
 -- the w bytes of x
-unfoldable pub bytes : ℕ → ℕ → List ℕ
-bytes zero x = []
-bytes (suc w) x = x / 256 ^ w ∷ bytes w (x % 256 ^ w)
+unfoldable pub beBytes : ℕ → ℕ → List ℕ
+beBytes zero x = []
+beBytes (suc w) x = x / 256 ^ w ∷ beBytes w (x % 256 ^ w)
 
 -- a byte, and a list whose elements are bytes
 abbrev pub byte : ℕ → Bool

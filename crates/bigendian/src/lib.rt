@@ -1,13 +1,13 @@
 // Big-endian numbers of 2, 4 and 8 bytes: read at a place of a slice, and written over the front of a lent part.
 // Signed numbers are in two's complement. Each open function asks only that its bytes lie within the slice.
-ghost use mathlib.Core.Path.{_≡_};
 ghost use Prim.Native.Nat.{_+_, _≤_, _<_};
 ghost use lib.ListN.{length, take, drop};
 ghost use lib.Signed.{mag};
+ghost use mathlib.Core.Path.{_≡_};
 ghost use mir.Syntax.{Width, w16, w32, w64};
 ghost use mir.Val.{toZ, ofZ};
-ghost use Rattle.bigendian.specs.Number.{be, bytes, highest, size};
 ghost use Rattle.buffer.specs.Buffer.{onto};
+ghost use Rattle.bigendian.specs.Number.{be, beBytes, highest, size};
 
 // How many bytes a number of 16, 32 and 64 bits has.
 pub const SIZE_16: usize = 2;
@@ -90,28 +90,28 @@ pub fn read_i64(s: &[u8], at: usize) -> i64
     signed_of(read_u64(s, at), HIGHEST_64)
 }
 
-pub fn write_u16(out: &mut [u8], x: u16)
+pub fn write_u16(x: u16, out: &mut [u8])
     requires { ⌜ size w16 ≤ length (now out) ⌝ }
-    ensures { λ _. ⌜ now (out .exit) ≡ onto (bytes (size w16) x) (now (out .entry)) ⌝ }
+    ensures { λ _. ⌜ now (out .exit) ≡ onto (beBytes (size w16) x) (now (out .entry)) ⌝ }
 {
     out[0] = (x / COUNT_8) as u8;
     out[1] = (x % COUNT_8) as u8;
 }
 
-pub fn write_u32(out: &mut [u8], x: u32)
+pub fn write_u32(x: u32, out: &mut [u8])
     requires { ⌜ size w32 ≤ length (now out) ⌝ }
-    ensures { λ _. ⌜ now (out .exit) ≡ onto (bytes (size w32) x) (now (out .entry)) ⌝ }
+    ensures { λ _. ⌜ now (out .exit) ≡ onto (beBytes (size w32) x) (now (out .entry)) ⌝ }
 {
-    write_u16(out, (x / COUNT_16) as u16);
-    write_u16(&mut out[SIZE_16..], (x % COUNT_16) as u16);
+    write_u16((x / COUNT_16) as u16, out);
+    write_u16((x % COUNT_16) as u16, &mut out[SIZE_16..]);
 }
 
-pub fn write_u64(out: &mut [u8], x: u64)
+pub fn write_u64(x: u64, out: &mut [u8])
     requires { ⌜ size w64 ≤ length (now out) ⌝ }
-    ensures { λ _. ⌜ now (out .exit) ≡ onto (bytes (size w64) x) (now (out .entry)) ⌝ }
+    ensures { λ _. ⌜ now (out .exit) ≡ onto (beBytes (size w64) x) (now (out .entry)) ⌝ }
 {
-    write_u32(out, (x / COUNT_32) as u32);
-    write_u32(&mut out[SIZE_32..], (x % COUNT_32) as u32);
+    write_u32((x / COUNT_32) as u32, out);
+    write_u32((x % COUNT_32) as u32, &mut out[SIZE_32..]);
 }
 
 // The bits of a signed number, in the width whose highest number is `ones`.
@@ -126,23 +126,23 @@ fn bits_of(z: i64, ones: u64) -> u64
     }
 }
 
-pub fn write_i16(out: &mut [u8], z: i16)
+pub fn write_i16(z: i16, out: &mut [u8])
     requires { ⌜ size w16 ≤ length (now out) ⌝ }
-    ensures { λ _. ⌜ now (out .exit) ≡ onto (bytes (size w16) (ofZ w16 z)) (now (out .entry)) ⌝ }
+    ensures { λ _. ⌜ now (out .exit) ≡ onto (beBytes (size w16) (ofZ w16 z)) (now (out .entry)) ⌝ }
 {
-    write_u16(out, bits_of(z as i64, HIGHEST_16) as u16);
+    write_u16(bits_of(z as i64, HIGHEST_16) as u16, out);
 }
 
-pub fn write_i32(out: &mut [u8], z: i32)
+pub fn write_i32(z: i32, out: &mut [u8])
     requires { ⌜ size w32 ≤ length (now out) ⌝ }
-    ensures { λ _. ⌜ now (out .exit) ≡ onto (bytes (size w32) (ofZ w32 z)) (now (out .entry)) ⌝ }
+    ensures { λ _. ⌜ now (out .exit) ≡ onto (beBytes (size w32) (ofZ w32 z)) (now (out .entry)) ⌝ }
 {
-    write_u32(out, bits_of(z as i64, HIGHEST_32) as u32);
+    write_u32(bits_of(z as i64, HIGHEST_32) as u32, out);
 }
 
-pub fn write_i64(out: &mut [u8], z: i64)
+pub fn write_i64(z: i64, out: &mut [u8])
     requires { ⌜ size w64 ≤ length (now out) ⌝ }
-    ensures { λ _. ⌜ now (out .exit) ≡ onto (bytes (size w64) (ofZ w64 z)) (now (out .entry)) ⌝ }
+    ensures { λ _. ⌜ now (out .exit) ≡ onto (beBytes (size w64) (ofZ w64 z)) (now (out .entry)) ⌝ }
 {
-    write_u64(out, bits_of(z, HIGHEST_64));
+    write_u64(bits_of(z, HIGHEST_64), out);
 }

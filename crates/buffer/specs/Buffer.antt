@@ -1,18 +1,18 @@
--- A list laid over the front of a buffer, or over it from a place on; what a writer asks and promises; lists one after another; a test of every
--- element. Definitions only. Assumes nothing.
+-- Definitions only.
+-- A list laid over the front of a buffer, or over it from a place on; what a writer asks and promises; lists one after another; a test of every element.
+use Prim.Native.Nat.{ℕ, zero, suc, _+_, _≤_}
+use lib.ListN.{length, take, drop}
 use mathlib.Core.Bool.{Bool, true, _&&_}
 use mathlib.Core.List.{List, [], _∷_, _++_}
 use mathlib.Core.Path.{_≡_}
-use Prim.Native.Nat.{ℕ, zero, suc, _+_, _≤_}
-use lib.ListN.{length, take, drop}
 
 -- the list b written over the front of out; what lies beyond b stays
 abbrev pub onto : {X : Type 0} → List X → List X → List X
 onto b out = b ++ drop (length b) out
 
 -- the same from the place `at` on; what lies before stays too
-abbrev pub onto-at : {X : Type 0} → ℕ → List X → List X → List X
-onto-at at b out = take at out ++ onto b (drop at out)
+abbrev pub ontoAt : {X : Type 0} → ℕ → List X → List X → List X
+ontoAt at b out = take at out ++ onto b (drop at out)
 
 -- bytes b have room from `at` on
 pub record Room (b : List ℕ) (at : ℕ) (out : List ℕ) : Type 0 where
@@ -21,7 +21,7 @@ pub record Room (b : List ℕ) (at : ℕ) (out : List ℕ) : Type 0 where
 -- what a writer promises: it wrote b from `at` on, changed nothing else, and returned the place behind it, which from the front is b's length
 pub record Wrote (b : List ℕ) (at : ℕ) (before : List ℕ) (next : ℕ) (after : List ℕ) : Type 0 where
   pub place : next ≡ at + length b
-  pub bytes : after ≡ onto-at at b before
+  pub bytes : after ≡ ontoAt at b before
 
 -- the pieces 0 to n − 1, one behind the other
 unfoldable pub run : {X : Type 0} → ℕ → (ℕ → List X) → List X

@@ -1,33 +1,33 @@
 -- What a buffer holds after writes over its front, after a part of it was lent and came back with a write over the part's front, and after writes
 -- from a place on, one after another in either order of work. Assumes nothing.
-use mathlib.Core.Path.{_≡_, sym, ap, _∙_}
-use mathlib.Core.List.{List, [], _∷_, _++_, append-assoc, append-nil}
 use Prim.Native.Nat.{ℕ, _+_, _-_, _≤_, _<_}
+use borrow.Rule.Slice.PartMut.{putMid}
+use lib.ListN.{length, take, drop, set, length-append, length-take, length-drop, drop-of-length-le, take-append-drop}
+use lib.Seq.{take-all, take-at, drop-at, drop-drop, take-take, take-append-le, length-take-le, set-split}
+use mathlib.Core.List.{List, [], _∷_, _++_, append-assoc, append-nil}
+use mathlib.Core.Path.{_≡_, sym, _∙_}
 use native.Mathlib.Nat.{zero-add}
 use native.Mathlib.Numerals.{add-one}
 use native.Mathlib.Omega.{arith}
-use lib.ListN.{length, take, drop, set, length-append, length-take, length-drop, drop-of-length-le, take-append-drop}
-use lib.Seq.{take-all, take-at, drop-at, drop-drop, take-take, take-append-le, drop-append-le, length-take-le, set-split}
-use borrow.Rule.Slice.PartMut.{putMid}
-use Rattle.buffer.specs.Buffer.{onto, onto-at}
+use Rattle.buffer.specs.Buffer.{onto, ontoAt}
 
 module _ {X : Type 0} where
   -- ---- from a place on
 
-  pub length-onto-at : (at : ℕ) (b out : List X) → at + length b ≤ length out → length (onto-at at b out) ≡ length out
+  pub length-onto-at : (at : ℕ) (b out : List X) → at + length b ≤ length out → length (ontoAt at b out) ≡ length out
   length-onto-at at b out h = simp (length-append, length-drop, length-take) (omega arith)
 
   -- the empty list changes nothing
-  pub onto-at-none : (at : ℕ) (out : List X) → onto-at at [] out ≡ out
+  pub onto-at-none : (at : ℕ) (out : List X) → ontoAt at [] out ≡ out
   onto-at-none at out = take-append-drop at out
 
   -- b after a
-  pub onto-at-then : (at : ℕ) (a b out : List X) → at ≤ length out → onto-at (at + length a) b (onto-at at a out) ≡ onto-at at (a ++ b) out
+  pub onto-at-then : (at : ℕ) (a b out : List X) → at ≤ length out → ontoAt (at + length a) b (ontoAt at a out) ≡ ontoAt at (a ++ b) out
   onto-at-then at a b out h =
       let p : List X = take at out in
       let t : List X = drop (length a) (drop at out) in
       let n : length (p ++ a) ≡ at + length a = length-append p a ∙ rw (length-take-le at out h) in
-      let e : onto-at at a out ≡ (p ++ a) ++ t = sym (append-assoc p a t) in
+      let e : ontoAt at a out ≡ (p ++ a) ++ t = sym (append-assoc p a t) in
       rw (
         e,
         take-at (p ++ a) t (at + length a) n,
@@ -39,7 +39,7 @@ module _ {X : Type 0} where
       )
 
   -- a before b, which begins at r
-  pub onto-at-before : (at r : ℕ) (a b out : List X) → at + length a ≡ r → r ≤ length out → onto-at at a (onto-at r b out) ≡ onto-at at (a ++ b) out
+  pub onto-at-before : (at r : ℕ) (a b out : List X) → at + length a ≡ r → r ≤ length out → ontoAt at a (ontoAt r b out) ≡ ontoAt at (a ++ b) out
   onto-at-before at r a b out e h =
       let p : List X = take r out in
       let t : List X = b ++ drop (length b) (drop r out) in
@@ -55,7 +55,7 @@ module _ {X : Type 0} where
         append-assoc a b (drop (length b) (drop r out)),
       )
 
-  pub set-onto-at : (at : ℕ) (d : X) (out : List X) → at < length out → set out at d ≡ onto-at at (d ∷ []) out
+  pub set-onto-at : (at : ℕ) (d : X) (out : List X) → at < length out → set out at d ≡ ontoAt at (d ∷ []) out
   set-onto-at at d out h = set-split out at d h ∙ rw (drop-drop 1 at out, add-one at)
 
   -- ---- over the front
@@ -71,15 +71,8 @@ module _ {X : Type 0} where
   holds m b out e = simp length-append (omega arith)
 
   -- b behind what is done
-  onto-then : (out done b : List X) {at : ℕ} → length done ≡ at → onto-at at b (onto done out) ≡ onto (done ++ b) out
+  onto-then : (out done b : List X) {at : ℕ} → length done ≡ at → ontoAt at b (onto done out) ≡ onto (done ++ b) out
   onto-then out done b l = rw (← l) (rw (zero-add (length done)) at (onto-at-then 0 done b out (omega arith)))
-
-  -- over the front of a buffer's first k elements, and so over the buffer's front
-  pub within-front : (k : ℕ) (b out : List X) → length b ≤ k → k ≤ length out → onto b (take k out) ++ drop k out ≡ onto b out
-  within-front k b out h l =
-      let n : length (take k out) ≡ k = length-take-le k out l in
-      append-assoc b (drop (length b) (take k out)) (drop k out)
-      ∙ ap (λ r. b ++ r) (sym (drop-append-le (length b) (take k out) (drop k out) (omega arith)) ∙ ap (drop (length b)) (take-append-drop k out))
 
   -- ---- over the front of a part that goes to the buffer's end
 
@@ -95,7 +88,7 @@ module _ {X : Type 0} where
   past : (xs : List X) (at : ℕ) → drop (length xs - at) (drop at xs) ≡ []
   past xs at = let h : length (drop at xs) ≤ length xs - at = simp length-drop (omega arith) in drop-of-length-le (drop at xs) h
 
-  pub put-is : (xs b : List X) (at : ℕ) {ys : List X} → ys ≡ onto b (part xs at) → put xs at ys ≡ onto-at at b xs
+  pub put-is : (xs b : List X) (at : ℕ) {ys : List X} → ys ≡ onto b (part xs at) → put xs at ys ≡ ontoAt at b xs
   put-is xs b at f = rw (f, past xs at, part-is xs at, append-nil)
 
   -- the part from `at` of `count` elements was filled with b

@@ -3,3 +3,4 @@ pub mod Laws
 pub mod WroteLaws
 pub mod RunLaws
 pub mod AllLaws
+pub mod FrontLaws

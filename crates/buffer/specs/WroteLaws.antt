@@ -1,11 +1,11 @@
 -- Writes one after another, in a buffer with room for them, from a place on or over the front of a part that was lent; a single store is a write of one
 -- byte. Assumes nothing.
-use mathlib.Core.Path.{_≡_, refl, sym, ap, _∙_}
-use mathlib.Core.List.{List, [], _∷_, _++_, append-nil}
 use Prim.Native.Nat.{ℕ, _+_, _≤_, _<_}
+use lib.ListN.{length, set, length-append}
+use mathlib.Core.List.{List, [], _∷_, _++_, append-nil}
+use mathlib.Core.Path.{_≡_, refl, sym, ap, _∙_}
 use native.Mathlib.Nat.{add-zero, zero-add, add-assoc}
 use native.Mathlib.Omega.{arith}
-use lib.ListN.{length, set, length-append}
 use Rattle.buffer.specs.Buffer.{onto, Room, Wrote, concat}
 use Rattle.buffer.specs.Laws.{part, put, put-is, length-onto-at, onto-at-none, onto-at-then, set-onto-at}
 

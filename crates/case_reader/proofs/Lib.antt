@@ -1,1 +1,2 @@
 mod Whole
+mod ReadingRows

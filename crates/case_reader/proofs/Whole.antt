@@ -1,21 +1,24 @@
 -- The parts of the input at the places where the code reads them, and what their refusals make of the whole.
 -- Assumes nothing.
-use mathlib.Core.Path.{_≡_, sym, _∙_}
-use mathlib.Core.List.{List}
 use Prim.Native.Nat.{ℕ, _≤_}
-use lib.ListN.{drop}
 use lib.IntN.{ℤ, pos}
-use Rattle.outcome.specs.declared.Refusal.{Refusal}
-use Rattle.outcome.specs.declared.Status.the-variants.{Accepted, Refused}
-use Rattle.outcome.specs.Outcome.{first}
+use lib.ListN.{drop}
+use mathlib.Core.List.{List}
+use mathlib.Core.Path.{_≡_, sym, _∙_}
 use Rattle.limits.specs.Limits.{mostTanks}
 use Rattle.rows.specs.Block.{Block, over, together}
+use Rattle.outcome.specs.Outcome.{first}
+use Rattle.outcome.specs.declared.Refusal.{Refusal}
+use Rattle.outcome.specs.declared.Status.the-variants.{Accepted, Refused}
+use Rattle.fields.specs.AnswerLaws.{read-status}
 use Rattle.casefile.specs.Case.{caseWith}
-use Rattle.casefile.specs.Layout.{rowsEnd}
-use Rattle.casefile.specs.Decode.{afterHead, headStatus, rowsStatus, rowsOf, trialOf, tailStatus, inputStatus, caseOf, refused, decode, padded, places, held, stored, reading}
 use Rattle.casefile.specs.CaseLaws.{head-limits}
-use Rattle.case_reader.specs.declared.Head.{Head}
+use Rattle.casefile.specs.Decode.{afterHead, headStatus, rowsStatus, rowsOf, trialOf, tailStatus, inputStatus, caseOf, refused, decode, padded, places, held, stored, reading, CaseRead}
+use Rattle.casefile.specs.Layout.{rowsEnd}
+use Rattle.casefile.specs.StoredLaws.{case-read}
+use Rattle.casefile.specs.declared.Reading.{Reading}
 use Rattle.case_reader.specs.Read.{headOf, HeadFound}
+use Rattle.case_reader.specs.declared.Head.{Head}
 
 module _ (s : List ℕ) (head : Head) (found : HeadFound s head) where
   abbrev n : ℕ
@@ -24,17 +27,18 @@ module _ (s : List ℕ) (head : Head) (found : HeadFound s head) where
   abbrev rounds : ℕ
   rounds = head .rounds
 
-  stops : (q : Refusal) → inputStatus s ≡ Refused q → reading (refused q) ≡ reading (decode s)
+  -- the reading that is made of a refusal
+  stops : (q : Refusal) → inputStatus s ≡ Refused q → {r : Reading} → CaseRead (refused q) r → CaseRead (decode s) r
   unfolding decode
-  stops q e = rw e
+  stops q e w = rw e w
 
-  pub head-stops : (q : Refusal) → head .status ≡ Refused q → reading (refused q) ≡ reading (decode s)
+  pub head-stops : (q : Refusal) → head .status ≡ Refused q → {r : Reading} → CaseRead (refused q) r → CaseRead (decode s) r
   unfolding inputStatus
-  head-stops q e = stops q (rw (sym (found .status) ∙ e))
+  head-stops q e w = stops q (rw (sym (read-status found) ∙ e)) w
 
   module _ (h : head .status ≡ Accepted) where
     accepted : headStatus s ≡ Accepted
-    accepted = sym (found .status) ∙ h
+    accepted = sym (read-status found) ∙ h
 
     head-is : head ≡ headOf s
     head-is = found .made h
@@ -50,17 +54,19 @@ module _ (s : List ℕ) (head : Head) (found : HeadFound s head) where
     unfolding caseOf
     case-is = rw head-is
 
-    pub rows-stop : (q : Refusal) → rowsStatus n n (afterHead s) ≡ Refused q → reading (refused q) ≡ reading (decode s)
-    rows-stop q e = stops q (status-is ∙ rw e)
+    pub rows-stop : (q : Refusal) → rowsStatus n n (afterHead s) ≡ Refused q → {r : Reading} → CaseRead (refused q) r → CaseRead (decode s) r
+    rows-stop q e w = stops q (status-is ∙ rw e) w
 
     module _ (r : rowsStatus n n (afterHead s) ≡ Accepted) where
-      pub tail-stops : (q : Refusal) → tailStatus rounds n (drop (rowsEnd n) s) ≡ Refused q → reading (refused q) ≡ reading (decode s)
-      tail-stops q e = stops q (status-is ∙ rw (r, e))
+      pub tail-stops : (q : Refusal) → tailStatus rounds n (drop (rowsEnd n) s) ≡ Refused q → {r : Reading} → CaseRead (refused q) r → CaseRead (decode s) r
+      tail-stops q e w = stops q (status-is ∙ rw (r, e)) w
 
       -- nothing is refused
       pub whole : tailStatus rounds n (drop (rowsEnd n) s) ≡ Accepted → (rows : Block) (y : List ℤ)
           → rows ≡ over (together (rowsOf n n (afterHead s))) places
           → y ≡ padded mostTanks (pos 0) (trialOf rounds n (drop (rowsEnd n) s))
-          → record { status = Accepted; case = held n (head .exponent) rounds rows y } ≡ reading (decode s)
+          → CaseRead (decode s) (record { status = Accepted; case = held n (head .exponent) rounds rows y })
       unfolding decode reading stored
-      whole e rows y m g = let z : inputStatus s ≡ Accepted = status-is ∙ rw (r, e) in rw (z, case-is, m, g)
+      whole e rows y m g =
+          let z : inputStatus s ≡ Accepted = status-is ∙ rw (r, e) in
+          case-read (decode s) _ (rw (z, case-is, m, g))

@@ -1,11 +1,12 @@
 // The reader of case files: bytes in, the case or the first refusal out.
-ghost use mathlib.Core.Path.{_≡_};
+mod row_fields;
+
 ghost use lib.ListN.{drop};
+ghost use Rattle.casefile.specs.Decode.{refused as refusedBy, decode, CaseRead};
 ghost use Rattle.casefile.specs.Layout.{rowsEnd};
-ghost use Rattle.casefile.specs.Decode.{refused as refusedBy, decode, reading};
 ghost use Rattle.case_reader.specs.Read.{HeadFound, TrialFits, TrialFound, TailFound};
-use casefile::Case;
 use casefile::Reading;
+use casefile::StoredCase;
 use fields::HEADER_SIZE;
 use outcome::Refusal;
 use outcome::Status;
@@ -86,14 +87,14 @@ fn read_tail(s: &[u8], rounds: usize, n: usize, y: &mut [i32]) -> Status
 
 // A refusal, beside a case of zeros.
 pub fn refused(refusal: Refusal) -> Reading
-    ensures { λ r. ⌜ r ≡ reading (refusedBy refusal) ⌝ }
+    ensures { λ r. ⌜ CaseRead (refusedBy refusal) r ⌝ }
 {
     let coefficients = [0i16; limits::MOST_COEFFICIENTS];
     let tolerances = [0u16; limits::MOST_COEFFICIENTS];
     let right_sides = [0i32; limits::MOST_TANKS];
     let right_tolerances = [0u32; limits::MOST_TANKS];
     let trial = [0i32; limits::MOST_TANKS];
-    let case = Case {
+    let case = StoredCase {
         n: 0,
         exponent: 0,
         rounds: 0,
@@ -111,7 +112,7 @@ pub fn refused(refusal: Refusal) -> Reading
 
 // Reads a case. A refusal is the first in document 01's order, beside a case of zeros. After acceptance every place past the used ones is zero.
 pub fn read_case(s: &[u8]) -> Reading
-    ensures { λ r. ⌜ r ≡ reading (decode (now (s .entry))) ⌝ }
+    ensures { λ r. ⌜ CaseRead (decode (now (s .entry))) r ⌝ }
 {
     let head = read_head(s);
     let found = head.status;
@@ -125,7 +126,7 @@ pub fn read_case(s: &[u8]) -> Reading
     let mut b = [0i32; limits::MOST_TANKS];
     let mut f = [0u32; limits::MOST_TANKS];
     let mut y = [0i32; limits::MOST_TANKS];
-    let rows = row_reader::read_rows(s, casefile::ROWS_AT, n, &mut a, &mut t, &mut b, &mut f);
+    let rows = row_fields::read_rows(s, casefile::ROWS_AT, n, &mut a, &mut t, &mut b, &mut f);
     if let Status::Refused(q) = rows {
         return refused(q);
     }
@@ -133,7 +134,7 @@ pub fn read_case(s: &[u8]) -> Reading
     if let Status::Refused(q) = tail {
         return refused(q);
     }
-    let case = Case {
+    let case = StoredCase {
         n,
         exponent: head.exponent,
         rounds,

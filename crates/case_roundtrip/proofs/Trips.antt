@@ -1,67 +1,68 @@
 -- What a caller learns from the reader's and the writer's contracts.
 -- Assumes nothing.
-use mathlib.Core.Path.{_≡_, sym, ap, ap₂, _∙_}
-use mathlib.Core.List.{List}
 use Prim.Native.Nat.{ℕ, _*_, _≤_}
-use native.Mathlib.Omega.{arith}
-use lib.ListN.{length, take, replicate}
 use lib.IntN.{pos}
-use Rattle.outcome.specs.declared.Refusal.{Refusal}
-use Rattle.outcome.specs.Outcome.{said}
+use lib.ListN.{length, take, replicate}
+use mathlib.Core.List.{List}
+use mathlib.Core.Path.{_≡_, sym, ap, _∙_}
+use native.Mathlib.Omega.{arith}
+use Rattle.limits.specs.Limits.{mostTanks, mostCoefficients}
+use Rattle.buffer.specs.Laws.{take-onto, holds}
+use Rattle.rows.specs.Block.{RowsRoom, front}
+use Rattle.rows.specs.BlockLaws.{front-over, room-over}
+use Rattle.outcome.specs.CallResult.{callResult}
+use Rattle.outcome.specs.Outcome.{reportedOutcome}
 use Rattle.outcome.specs.declared.Outcome.{Outcome}
 use Rattle.outcome.specs.declared.Outcome.the-variants.{Count, Refused as RefusedBy}
-use Rattle.buffer.specs.Laws.{take-onto, holds}
+use Rattle.outcome.specs.declared.Refusal.{Refusal}
 use Rattle.bigendian.specs.Number.{Bytes}
-use Rattle.rows.specs.Block.{RowsRoom, front}
-use Rattle.casefile.specs.declared.Case.{Case as Stored}
-use Rattle.casefile.specs.declared.Reading.{Reading}
-use Rattle.limits.specs.Limits.{mostTanks, mostCoefficients}
 use Rattle.casefile.specs.Case.{Case, caseWith, trialCount}
-use Rattle.casefile.specs.Decode.{accepted, refused, decoded, decode, places, heldRows, stored, reading}
-use Rattle.casefile.specs.StoredLaws.{Whole}
-use Rattle.rows.specs.BlockLaws.{front-over, room-over}
-use Rattle.casefile.specs.SoundLaws.{counts}
-use Rattle.casefile.specs.RowsLaws.{square-fits}
-use Rattle.casefile.specs.TailLaws.{brought-most}
 use Rattle.casefile.specs.CaseLaws.{Good, decode-good}
-use Rattle.casefile.specs.Write.{writeStatus, write, leaves}
+use Rattle.casefile.specs.Decode.{accepted, refused, decoded, decode, places, heldRows, stored, CaseRead}
+use Rattle.casefile.specs.RowsLaws.{square-fits}
+use Rattle.casefile.specs.SoundLaws.{counts}
+use Rattle.casefile.specs.StoredLaws.{Whole}
+use Rattle.casefile.specs.TailLaws.{given-trial-most}
+use Rattle.casefile.specs.Write.{writeStatus, write}
 use Rattle.casefile.specs.WriteLaws.{count-accepted, count-fits, written-read, refused-status, read-written}
-use Rattle.case_roundtrip.specs.Trip.{writtenAndRead, comesBack, writtenAgain}
+use Rattle.casefile.specs.declared.Reading.{Reading}
+use Rattle.casefile.specs.declared.StoredCase.{StoredCase}
+use Rattle.case_roundtrip.specs.Trip.{WrittenAndRead, writtenAgain}
 
 -- ---- written, then read
 
-module _ (c : Case) (out : List ℕ) (o : Outcome) {exit : List ℕ} (e : leaves o exit ≡ write c out) where
-  answer : write c out .outcome ≡ said o
+module _ (c : Case) (out : List ℕ) (o : Outcome) {exit : List ℕ} (e : callResult o exit ≡ write c out) where
+  answer : write c out .outcome ≡ reportedOutcome o
   answer = sym (ap (λ w. w .outcome) e)
 
-  back : (r : Reading) → r ≡ reading (decoded (writeStatus c (length out)) c) → comesBack r exit ≡ writtenAndRead c out
-  back r q = ap₂ comesBack q (ap (λ w. w .buffer) e)
+  back : (r : Reading) → CaseRead (decoded (writeStatus c (length out)) c) r → WrittenAndRead c out r exit
+  back r q = record { back = q; buffer = ap (λ w. w .buffer) e }
 
   pub fits : (m : ℕ) → o ≡ Count m → m ≤ length exit
-  fits m h = rw (← (ap (λ w. w .buffer) e)) at (count-fits c out m (answer ∙ ap said h))
+  fits m h = rw (← (ap (λ w. w .buffer) e)) at (count-fits c out m (answer ∙ ap reportedOutcome h))
 
-  pub is-read : (m : ℕ) → o ≡ Count m → (r : Reading) → r ≡ reading (decode (take m exit)) → comesBack r exit ≡ writtenAndRead c out
+  pub is-read : (m : ℕ) → o ≡ Count m → (r : Reading) → CaseRead (decode (take m exit)) r → WrittenAndRead c out r exit
   is-read m h r q =
-      let d : decode (take m exit) ≡ accepted c = rw (← (ap (λ w. w .buffer) e)) at (written-read c out m (answer ∙ ap said h)) in
-      back r (q ∙ ap reading d ∙ sym (ap (λ t. reading (decoded t c)) (count-accepted c out m (answer ∙ ap said h))))
+      let d : decode (take m exit) ≡ accepted c = rw (← (ap (λ w. w .buffer) e)) at (written-read c out m (answer ∙ ap reportedOutcome h)) in
+      back r (rw (count-accepted c out m (answer ∙ ap reportedOutcome h)) (rw d at q))
 
-  pub is-refused : (q : Refusal) → o ≡ RefusedBy q → (r : Reading) → r ≡ reading (refused q) → comesBack r exit ≡ writtenAndRead c out
-  is-refused q h r g = back r (g ∙ sym (ap (λ t. reading (decoded t c)) (refused-status c out q (answer ∙ ap said h))))
+  pub is-refused : (q : Refusal) → o ≡ RefusedBy q → (r : Reading) → CaseRead (refused q) r → WrittenAndRead c out r exit
+  is-refused q h r g = back r (rw (refused-status c out q (answer ∙ ap reportedOutcome h)) g)
 
 -- ---- read, then written
 
 -- the case of the lists that a caller hands on, k figures of its trial
-abbrev handed : Stored → ℕ → Case
+abbrev handed : StoredCase → ℕ → Case
 handed p k =
     caseWith (p .n) (p .exponent) (p .rounds) (front (p .n * p .n) (p .n) (heldRows p)) (take k (p .trial))
 
-pub record Small (p : Stored) : Type 0 where
+pub record Small (p : StoredCase) : Type 0 where
   pub rows : RowsRoom (p .n) (heldRows p)
   pub square : p .n * p .n ≤ mostCoefficients
   pub trial-count : trialCount (p .rounds) (p .n) ≤ mostTanks
   pub trial : trialCount (p .rounds) (p .n) ≤ length (p .trial)
 
-module _ (s : List ℕ) (p : Stored) (w : Whole (decode s) p) where
+module _ (s : List ℕ) (p : StoredCase) (w : Whole (decode s) p) where
   abbrev c : Case
   c = w .figures
 
@@ -75,8 +76,8 @@ module _ (s : List ℕ) (p : Stored) (w : Whole (decode s) p) where
       (record {
         rows = record { small = fine .limits .small; room = room-over (c .rows) places (counts (fine .rows)) };
         square = square-fits _ (fine .limits .small);
-        trial-count = omega (arith, fine .limits .small, brought-most (c .rounds) (c .n));
-        trial = holds _ (c .trial) (replicate mostTanks (pos 0)) (fine .trial .count);
+        trial-count = omega (arith, fine .limits .small, given-trial-most (c .rounds) (c .n));
+        trial = holds _ (c .Y) (replicate mostTanks (pos 0)) (fine .trial .count);
       })
 
   given-is : (k : ℕ) → k ≡ trialCount (p .rounds) (p .n) → handed p k ≡ c
@@ -84,7 +85,7 @@ module _ (s : List ℕ) (p : Stored) (w : Whole (decode s) p) where
   given-is k q =
       ap (handed p) q
       ∙ ap (λ x. handed x (trialCount (x .rounds) (x .n))) (w .held)
-      ∙ rw (front-over (c .rows) places (counts (fine .rows)), take-onto (c .trial) (replicate mostTanks (pos 0)) _ (fine .trial .count))
+      ∙ rw (front-over (c .rows) places (counts (fine .rows)), take-onto (c .Y) (replicate mostTanks (pos 0)) _ (fine .trial .count))
 
   pub again : (k : ℕ) → k ≡ trialCount (p .rounds) (p .n) → Bytes s → (out : List ℕ) → write (handed p k) out ≡ writtenAgain (decode s) s out
   again k q bs out = rw (given-is k q, w .decoded) (read-written s c out bs (w .decoded))

@@ -1,9 +1,9 @@
 // Demand 2's round trip as a caller sees it: these functions use the contracts of the reader and the writer and nothing inside them.
 ghost use mathlib.Core.Path.{_≡_};
-ghost use Rattle.casefile.specs.Case.{given};
+ghost use Rattle.outcome.specs.CallResult.{callResult};
+ghost use Rattle.casefile.specs.Case.{caseOfLists};
 ghost use Rattle.casefile.specs.Decode.{decode};
-ghost use Rattle.casefile.specs.Write.{leaves};
-ghost use Rattle.case_roundtrip.specs.Trip.{writtenAndRead, comesBack, writtenAgain};
+ghost use Rattle.case_roundtrip.specs.Trip.{WrittenAndRead, writtenAgain};
 use casefile::Reading;
 use outcome::Outcome;
 use outcome::Status;
@@ -20,7 +20,7 @@ pub fn write_and_read(
     trial: &[i32],
     out: &mut [u8],
 ) -> Reading
-    ensures { λ r. ⌜ comesBack r (now (out .exit)) ≡ writtenAndRead (given n exponent rounds (now (coefficients .entry)) (now (tolerances .entry)) (now («right_sides» .entry)) (now («right_tolerances» .entry)) (now (trial .entry))) (now (out .entry)) ⌝ }
+    ensures { λ r. ⌜ WrittenAndRead (caseOfLists n exponent rounds (now (coefficients .entry)) (now (tolerances .entry)) (now («right_sides» .entry)) (now («right_tolerances» .entry)) (now (trial .entry))) (now (out .entry)) r (now (out .exit)) ⌝ }
 {
     let written = case_writer::write_case(
         n,
@@ -41,7 +41,7 @@ pub fn write_and_read(
 
 // Reads a case and writes it again: the old bytes over the front of out, whose other bytes stay; or the refusal, and out as it was.
 pub fn read_and_write(s: &[u8], out: &mut [u8]) -> Outcome
-    ensures { λ r. ⌜ leaves r (now (out .exit)) ≡ writtenAgain (decode (now (s .entry))) (now (s .entry)) (now (out .entry)) ⌝ }
+    ensures { λ r. ⌜ callResult r (now (out .exit)) ≡ writtenAgain (decode (now (s .entry))) (now (s .entry)) (now (out .entry)) ⌝ }
 {
     let reading = case_reader::read_case(s);
     let status = reading.status;
@@ -53,7 +53,7 @@ pub fn read_and_write(s: &[u8], out: &mut [u8]) -> Outcome
     let rounds = case.rounds;
     let square = n * n;
     let tail = casefile::tail_places(rounds, n);
-    let brought = tail.trial_count;
+    let count = tail.trial_count;
     let coefficients = case.coefficients;
     let tolerances = case.tolerances;
     let right_sides = case.right_sides;
@@ -67,7 +67,7 @@ pub fn read_and_write(s: &[u8], out: &mut [u8]) -> Outcome
         &tolerances[..square],
         &right_sides[..n],
         &right_tolerances[..n],
-        &trial[..brought],
+        &trial[..count],
         out,
     )
 }

@@ -1,12 +1,16 @@
 // The writer of case files.
-ghost use mathlib.Core.Path.{_≡_};
+mod row_fields;
+
 ghost use Prim.Native.Nat.{_≤_};
 ghost use lib.ListN.{length};
-ghost use Rattle.outcome.specs.declared.Status.the-variants.{Accepted};
+ghost use mathlib.Core.Path.{_≡_};
 ghost use Rattle.buffer.specs.Buffer.{onto, Wrote};
-ghost use Rattle.casefile.specs.Case.{given, caseStatus};
+ghost use Rattle.outcome.specs.CallResult.{callResult};
+ghost use Rattle.outcome.specs.Outcome.{statusNumber};
+ghost use Rattle.outcome.specs.declared.Status.the-variants.{Accepted};
+ghost use Rattle.casefile.specs.Case.{caseOfLists, caseStatus};
 ghost use Rattle.casefile.specs.Layout.{longestCase, encode, trialBytes};
-ghost use Rattle.casefile.specs.Write.{write, leaves};
+ghost use Rattle.casefile.specs.Write.{write};
 ghost use Rattle.case_writer.specs.Room.{TrialRoom};
 use fields::HEADER_SIZE;
 use outcome::Outcome;
@@ -24,7 +28,7 @@ fn check_case(
     f: &[u32],
     y: &[i32],
 ) -> Status
-    ensures { λ r. ⌜ r ≡ caseStatus (given n exponent rounds (now (a .entry)) (now (t .entry)) (now (b .entry)) (now (f .entry)) (now (y .entry))) ⌝ }
+    ensures { λ r. ⌜ statusNumber r ≡ statusNumber (caseStatus (caseOfLists n exponent rounds (now (a .entry)) (now (t .entry)) (now (b .entry)) (now (f .entry)) (now (y .entry)))) ⌝ }
 {
     if !casefile::head_fine(n, exponent, rounds) {
         return Status::Refused(Refusal::OutsideLimits);
@@ -45,20 +49,19 @@ fn check_case(
 }
 
 // The trial's field, where the case brings a trial, over the front of out.
-fn write_trial(out: &mut [u8], rounds: usize, n: usize, y: &[i32])
+fn write_trial(rounds: usize, n: usize, y: &[i32], out: &mut [u8])
     requires { ⌜ TrialRoom (now out) rounds n (now y) ⌝ }
     ensures { λ _. ⌜ now (out .exit) ≡ onto (trialBytes rounds (now (y .entry))) (now (out .entry)) ⌝ }
 {
     if rounds == 0 {
         let tail = casefile::tail_places(rounds, n);
-        fields::write_header(out, casefile::TRIAL_TAG, tail.trial_len as u16);
-        figures::write_i32s(&mut out[HEADER_SIZE..], y);
+        fields::write_header(casefile::TRIAL_TAG, tail.trial_len as u16, out);
+        figures::write_i32s(y, &mut out[HEADER_SIZE..]);
     }
 }
 
 // The fields of a case that nothing refuses, over the front of out, and their length.
 fn write_fields(
-    out: &mut [u8],
     n: usize,
     exponent: usize,
     rounds: usize,
@@ -67,20 +70,21 @@ fn write_fields(
     b: &[i32],
     f: &[u32],
     y: &[i32],
+    out: &mut [u8],
 ) -> usize
     requires { ⌜ longestCase ≤ length (now out) ⌝ }
-    requires { ⌜ caseStatus (given n exponent rounds (now a) (now t) (now b) (now f) (now y)) ≡ Accepted ⌝ }
-    ensures { λ r. ⌜ Wrote (encode (given n exponent rounds (now (a .entry)) (now (t .entry)) (now (b .entry)) (now (f .entry)) (now (y .entry)))) 0 (now (out .entry)) r (now (out .exit)) ⌝ }
+    requires { ⌜ caseStatus (caseOfLists n exponent rounds (now a) (now t) (now b) (now f) (now y)) ≡ Accepted ⌝ }
+    ensures { λ r. ⌜ Wrote (encode (caseOfLists n exponent rounds (now (a .entry)) (now (t .entry)) (now (b .entry)) (now (f .entry)) (now (y .entry)))) 0 (now (out .entry)) r (now (out .exit)) ⌝ }
 {
-    fields::write_header(out, casefile::HEAD_TAG, casefile::HEAD_LENGTH as u16);
+    fields::write_header(casefile::HEAD_TAG, casefile::HEAD_LENGTH as u16, out);
     out[casefile::N_AT] = n as u8;
     out[casefile::EXPONENT_AT] = exponent as u8;
     out[casefile::ROUNDS_AT] = rounds as u8;
-    row_writer::write_rows(&mut out[casefile::ROWS_AT..], n, a, t, b, f);
+    row_fields::write_rows(n, a, t, b, f, &mut out[casefile::ROWS_AT..]);
     let tail = casefile::tail_places(rounds, n);
     let trial = tail.trial;
     let end = tail.end;
-    write_trial(&mut out[trial..], rounds, n, y);
+    write_trial(rounds, n, y, &mut out[trial..]);
     fields::write_end(&mut out[end..]);
     end + fields::END_SIZE
 }
@@ -98,7 +102,7 @@ pub fn write_case(
     trial: &[i32],
     out: &mut [u8],
 ) -> Outcome
-    ensures { λ r. ⌜ leaves r (now (out .exit)) ≡ write (given n exponent rounds (now (coefficients .entry)) (now (tolerances .entry)) (now («right_sides» .entry)) (now («right_tolerances» .entry)) (now (trial .entry))) (now (out .entry)) ⌝ }
+    ensures { λ r. ⌜ callResult r (now (out .exit)) ≡ write (caseOfLists n exponent rounds (now (coefficients .entry)) (now (tolerances .entry)) (now («right_sides» .entry)) (now («right_tolerances» .entry)) (now (trial .entry))) (now (out .entry)) ⌝ }
 {
     if out.len() < casefile::LONGEST_CASE {
         return Outcome::Refused(Refusal::BufferTooShort);
@@ -117,7 +121,6 @@ pub fn write_case(
         return Outcome::Refused(q);
     }
     Outcome::Count(write_fields(
-        out,
         n,
         exponent,
         rounds,
@@ -126,5 +129,6 @@ pub fn write_case(
         right_sides,
         right_tolerances,
         trial,
+        out,
     ))
 }

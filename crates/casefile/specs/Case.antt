@@ -1,16 +1,17 @@
+-- Definitions only.
 -- A case, the tests of its limits, and which cases a writer takes.
 use Prim.Native.Nat.{ℕ, zero, suc, _*_, _≤_}
-use mathlib.Core.Bool.{Bool, _&&_}
-use mathlib.Core.List.{List}
-use lib.ListN.{length}
 use lib.Dec.{leb, eqb}
 use lib.IntN.{ℤ}
+use lib.ListN.{length}
+use mathlib.Core.Bool.{Bool, _&&_}
+use mathlib.Core.List.{List}
 use Rattle.limits.specs.Limits.{mostTanks, mostExponent, mostRounds, coefficientLimit, toleranceLimit, rightSideLimit, rightToleranceLimit, trialLimit}
+use Rattle.rows.specs.Block.{Block, block}
+use Rattle.outcome.specs.Outcome.{check, first}
 use Rattle.outcome.specs.declared.Refusal.the-variants.{WrongLength, OutsideLimits}
 use Rattle.outcome.specs.declared.Status.{Status}
-use Rattle.outcome.specs.Outcome.{check, first}
-use Rattle.figures.specs.Figures.{allUpTo, allWithin}
-use Rattle.rows.specs.Block.{Block, block}
+use Rattle.figures.specs.Figures.{allUpToLimit, allWithinLimit}
 
 -- document 01's n, e and K (rounds, its own term), its rows, and its trial Y
 pub record Case : Type 0 where
@@ -18,14 +19,14 @@ pub record Case : Type 0 where
   pub exponent : ℕ
   pub rounds : ℕ
   pub rows : Block
-  pub trial : List ℤ
+  pub Y : List ℤ
 
 abbrev pub caseWith : ℕ → ℕ → ℕ → Block → List ℤ → Case
-caseWith n exponent rounds rows trial = record { n = n; exponent = exponent; rounds = rounds; rows = rows; trial = trial }
+caseWith n exponent rounds rows Y = record { n = n; exponent = exponent; rounds = rounds; rows = rows; Y = Y }
 
 -- the case of these figures
-abbrev pub given : ℕ → ℕ → ℕ → List ℤ → List ℕ → List ℤ → List ℕ → List ℤ → Case
-given n exponent rounds a t b f y = caseWith n exponent rounds (block a t b f) y
+abbrev pub caseOfLists : ℕ → ℕ → ℕ → List ℤ → List ℕ → List ℤ → List ℕ → List ℤ → Case
+caseOfLists n exponent rounds A E b f Y = caseWith n exponent rounds (block A E b f) Y
 
 abbrev pub headFine : ℕ → ℕ → ℕ → Bool
 headFine n exponent rounds = leb 1 n && (leb n mostTanks && (leb exponent mostExponent && leb rounds mostRounds))
@@ -38,31 +39,31 @@ pub record HeadSmall (n exponent rounds : ℕ) : Type 0 where
   pub rounds-small : rounds ≤ mostRounds
 
 -- "K: .. 0 means that the case brings its trial": what holds there, and what where K is above 0
-abbrev pub whereBrought : {X : Type 0} → ℕ → X → X → X
-whereBrought zero x y = x
-whereBrought (suc k) x y = y
+abbrev pub whereTrialGiven : {X : Type 0} → ℕ → X → X → X
+whereTrialGiven zero x y = x
+whereTrialGiven (suc k) x y = y
 
 abbrev pub trialCount : ℕ → ℕ → ℕ
-trialCount k n = whereBrought k n 0
+trialCount k n = whereTrialGiven k n 0
 
 -- "n × n for the first two, n for the others, none for the trial where K is above 0"
 unfoldable pub counted : Case → Bool
 counted c =
-    eqb (length (c .rows .coefficients)) (c .n * c .n)
-    && (eqb (length (c .rows .tolerances)) (c .n * c .n)
-    && (eqb (length (c .rows .right-sides)) (c .n)
-    && (eqb (length (c .rows .right-tolerances)) (c .n)
-    && eqb (length (c .trial)) (trialCount (c .rounds) (c .n)))))
+    eqb (length (c .rows .A)) (c .n * c .n)
+    && (eqb (length (c .rows .E)) (c .n * c .n)
+    && (eqb (length (c .rows .b)) (c .n)
+    && (eqb (length (c .rows .f)) (c .n)
+    && eqb (length (c .Y)) (trialCount (c .rounds) (c .n)))))
 
 -- A, E, b and f within their limits
 unfoldable pub rowsFine : Block → Bool
 rowsFine r =
-    allWithin coefficientLimit (r .coefficients)
-    && (allUpTo toleranceLimit (r .tolerances)
-    && (allWithin rightSideLimit (r .right-sides) && allUpTo rightToleranceLimit (r .right-tolerances)))
+    allWithinLimit coefficientLimit (r .A)
+    && (allUpToLimit toleranceLimit (r .E)
+    && (allWithinLimit rightSideLimit (r .b) && allUpToLimit rightToleranceLimit (r .f)))
 
 unfoldable pub figuresFine : Case → Bool
-figuresFine c = rowsFine (c .rows) && allWithin trialLimit (c .trial)
+figuresFine c = rowsFine (c .rows) && allWithinLimit trialLimit (c .Y)
 
 -- "then with 6 an n, e or K outside its limits; then with 4 a list whose count is not the one due ..; then with 6 any other figure outside its limits"
 unfoldable pub caseStatus : Case → Status

@@ -1,34 +1,35 @@
 -- The two laws of case files: a case within its limits, encoded and decoded, is that case; bytes that decode to a case are its encoding.
 -- And what decodes is within the limits, and how long an encoding is. Assumes nothing.
-use mathlib.Core.Path.{_≡_, refl, sym, _∙_, subst}
-use mathlib.Core.List.{List, [], _∷_, _++_, append-nil, map}
-use mathlib.Core.Bool.{true}
 use Prim.Native.Nat.{ℕ, _+_, _*_, _≤_}
-use native.Mathlib.Omega.{arith}
+use borrow.Author.Tests.{leb-true, le-leb, eqb-true, eq-eqb}
 use lib.ListN.{length, drop, length-append}
 use lib.Seq.{drop-drop}
-use borrow.Author.Tests.{leb-true, le-leb, eqb-true, eq-eqb}
-use Rattle.outcome.specs.declared.Status.{Status}
-use Rattle.outcome.specs.declared.Status.the-variants.{Accepted, Refused}
-use Rattle.outcome.specs.Laws.{check-accepted, first-left, first-right}
-use Rattle.bigendian.specs.Number.{bytes, Bytes}
-use Rattle.bigendian.specs.NumberLaws.{bytes-drop}
+use mathlib.Core.Bool.{true}
+use mathlib.Core.List.{List, [], _∷_, _++_, append-nil, map}
+use mathlib.Core.Path.{_≡_, refl, sym, _∙_, subst}
+use native.Mathlib.Omega.{arith}
+use Rattle.limits.specs.Limits.{trialLimit}
+use Rattle.buffer.specs.AllLaws.{and-left, and-right}
 use Rattle.buffer.specs.Buffer.{joined}
 use Rattle.buffer.specs.RunLaws.{joined-append, concat-map}
-use Rattle.figures.specs.Figures.{within}
+use Rattle.rows.specs.BlockLaws.{length-split}
+use Rattle.outcome.specs.Laws.{check-accepted, first-left, first-right}
+use Rattle.outcome.specs.declared.Status.{Status}
+use Rattle.outcome.specs.declared.Status.the-variants.{Accepted, Refused}
+use Rattle.bigendian.specs.Number.{beBytes, Bytes}
+use Rattle.bigendian.specs.NumberLaws.{bytes-drop}
+use Rattle.figures.specs.Figures.{withinLimit}
 use Rattle.figures.specs.ItemLaws.{length-items}
-use Rattle.buffer.specs.AllLaws.{and-left, and-right}
+use Rattle.fields.specs.Due.{endStatus}
+use Rattle.fields.specs.DueLaws.{due-back, due-fine, due-same, end-back, end-same}
 use Rattle.fields.specs.Field.{headerSize, afterField, field, endTag, endSize, endField}
 use Rattle.fields.specs.FieldLaws.{length-field}
-use Rattle.limits.specs.Limits.{trialLimit}
 use Rattle.casefile.specs.Case.{Case, headFine, HeadSmall, trialCount, counted, figuresFine, caseStatus}
+use Rattle.casefile.specs.Decode.{headDue, headTanks, headExponent, headRounds, headStatus, rowsStatus, rowsOf, trialStatus, tailStatus, afterHead, afterRows, inputStatus, caseOf, accepted, decoded, decode}
 use Rattle.casefile.specs.Layout.{headTag, headLength, headValue, headField, rowsAt, rowSize, rowsEnd, longestCase, rowField, rowsIn, trialLength, trialSize, trialFields, trialBytes, encode}
-use Rattle.casefile.specs.Decode.{headDue, headTanks, headExponent, headRounds, headStatus, rowsStatus, rowsOf, trialStatus, endStatus, tailStatus, afterHead, afterRows, inputStatus, caseOf, accepted, decoded, decode}
-use Rattle.casefile.specs.DueLaws.{due-back, due-fine, due-same}
-use Rattle.rows.specs.BlockLaws.{length-split}
-use Rattle.casefile.specs.SoundLaws.{Sound, SoundBlock, sound, sound-fine, Rows, split-sound, together-split, split-together, together-sound}
 use Rattle.casefile.specs.RowsLaws.{length-row-fields, rows-back, rows-sound, rows-same, rows-fit}
-use Rattle.casefile.specs.TailLaws.{brought-most, length-trial, trial-back, trial-sound, trial-same, end-back, end-same}
+use Rattle.casefile.specs.SoundLaws.{Sound, SoundBlock, sound, sound-fine, Rows, split-sound, together-split, split-together, together-sound}
+use Rattle.casefile.specs.TailLaws.{given-trial-most, length-trial, trial-back, trial-sound, trial-same}
 
 -- ---- what a head that is not refused has
 
@@ -48,7 +49,7 @@ head-limits s e = head-small _ _ _ (due-fine headDue s e)
 pub record Good (c : Case) : Type 0 where
   pub limits : HeadSmall (c .n) (c .exponent) (c .rounds)
   pub rows : SoundBlock (c .n * c .n) (c .n) (c .rows)
-  pub trial : Sound (within trialLimit) (trialCount (c .rounds) (c .n)) (c .trial)
+  pub trial : Sound (withinLimit trialLimit) (trialCount (c .rounds) (c .n)) (c .Y)
 
 module _ (c : Case) where
   pub good : caseStatus c ≡ Accepted → Good c
@@ -62,12 +63,12 @@ module _ (c : Case) where
 -- ---- the encoding, field after field
 
 pub encode-is : (c : Case)
-    → encode c ≡ headField (c .n) (c .exponent) (c .rounds) ++ (joined rowField (rowsIn c) ++ (trialBytes (c .rounds) (c .trial) ++ endField))
+    → encode c ≡ headField (c .n) (c .exponent) (c .rounds) ++ (joined rowField (rowsIn c) ++ (trialBytes (c .rounds) (c .Y) ++ endField))
 unfolding encode
 encode-is c =
     rw (
-      joined-append (λ f. f) (map rowField (rowsIn c)) (trialFields (c .rounds) (c .trial) ++ (endField ∷ [])),
-      joined-append (λ f. f) (trialFields (c .rounds) (c .trial)) (endField ∷ []),
+      joined-append (λ f. f) (map rowField (rowsIn c)) (trialFields (c .rounds) (c .Y) ++ (endField ∷ [])),
+      joined-append (λ f. f) (trialFields (c .rounds) (c .Y)) (endField ∷ []),
       concat-map rowField (rowsIn c),
       append-nil endField,
     )
@@ -86,14 +87,14 @@ after-rows : (n : ℕ) (s : List ℕ) → drop (rowsEnd n) s ≡ drop (n * rowSi
 after-rows n s = sym (drop-drop (n * rowSize n) rowsAt s)
 
 pub decode-encode : (c : Case) → caseStatus c ≡ Accepted → decode (encode c) ≡ accepted c
-unfolding decode inputStatus tailStatus caseOf field bytes
+unfolding decode inputStatus tailStatus caseOf field beBytes
 decode-encode c e =
     let g = good c e in
-    let T : List ℕ = trialBytes (c .rounds) (c .trial) ++ endField in
+    let T : List ℕ = trialBytes (c .rounds) (c .Y) ++ endField in
     let R : List ℕ = joined rowField (rowsIn c) in
     let H : List ℕ = headField (c .n) (c .exponent) (c .rounds) in
     let r = rw (length-split (c .n) (c .n) (c .rows)) at (rows-back (g .limits .small) (split-sound (c .n) (g .rows)) T) in
-    let t = trial-back (c .rounds) (c .n) (c .trial) endField (g .limits .small) (g .trial) in
+    let t = trial-back (c .rounds) (c .n) (c .Y) endField (g .limits .small) (g .trial) in
     rw (
       encode-is c,
       head-back (c .n) (c .exponent) (c .rounds) (R ++ T) (g .limits),
@@ -189,7 +190,7 @@ length-encode c g =
     (rw (
       length-field headTag (headValue (c .n) (c .exponent) (c .rounds)),
       length-rows-in c g,
-      length-trial (c .rounds) (c .n) (c .trial) (g .trial .count),
+      length-trial (c .rounds) (c .n) (c .Y) (g .trial .count),
       length-field endTag [],
     )
     (omega arith)))
@@ -197,7 +198,7 @@ length-encode c g =
 pub longest : (c : Case) → caseStatus c ≡ Accepted → length (encode c) ≤ longestCase
 longest c e =
     let g = good c e in
-    omega (arith, length-encode c g, rows-fit (c .n) (g .limits .small), brought-most (c .rounds) (headerSize + trialLength (c .n)))
+    omega (arith, length-encode c g, rows-fit (c .n) (g .limits .small), given-trial-most (c .rounds) (headerSize + trialLength (c .n)))
 
 -- document 01: "at most 389 bytes .., which is enough to refuse a longer one". What is read as a case is no longer than the longest
 pub accepted-length : (s : List ℕ) (c : Case) → Bytes s → decode s ≡ accepted c → length s ≤ longestCase

@@ -1,41 +1,24 @@
+-- Definitions only.
 -- What reading bytes as a case gives: the first refusal in document 01's order ("fields are taken from the front, and at each field 2 to 6 in turn"), or the case; and the case
 -- as the program holds it.
 use Prim.Native.Nat.{ℕ, zero, suc}
-use mathlib.Core.Bool.{Bool}
-use mathlib.Core.List.{List, []}
-use lib.ListN.{length, getD, drop, replicate}
-use lib.Dec.{eqb}
 use lib.IntN.{ℤ, pos}
+use lib.ListN.{getD, drop, replicate}
+use mathlib.Core.List.{List, []}
+use mathlib.Core.Path.{_≡_}
+use Rattle.limits.specs.Limits.{mostTanks, mostCoefficients, trialLimit}
+use Rattle.buffer.specs.Buffer.{onto}
+use Rattle.rows.specs.Block.{Block, block, over, noRow, together}
+use Rattle.outcome.specs.Outcome.{statusNumber, first}
 use Rattle.outcome.specs.declared.Refusal.{Refusal}
-use Rattle.outcome.specs.declared.Refusal.the-variants.{OutsideLimits, TrailingBytes}
 use Rattle.outcome.specs.declared.Status.{Status}
 use Rattle.outcome.specs.declared.Status.the-variants.{Accepted, Refused}
-use Rattle.outcome.specs.Outcome.{check, first}
-use Rattle.buffer.specs.Buffer.{onto}
-use Rattle.figures.specs.Figures.{i16, u16, i32, u32, allWithin, items, figures, spread}
-use Rattle.fields.specs.Field.{endTag, endLength, endSize, valueOf, fieldStatus}
-use Rattle.limits.specs.Limits.{mostTanks, mostCoefficients, trialLimit}
-use Rattle.rows.specs.Block.{Block, block, over, noRow, together}
-use Rattle.casefile.specs.Case.{Case, caseWith, headFine, whereBrought, rowsFine}
+use Rattle.figures.specs.Figures.{i16Kind, u16Kind, i32Kind, u32Kind, allWithinLimit, items, figures, spread}
+use Rattle.fields.specs.Due.{Due, dueAt, dueStatus, endStatus}
+use Rattle.casefile.specs.Case.{Case, caseWith, headFine, whereTrialGiven, rowsFine}
 use Rattle.casefile.specs.Layout.{headTag, headLength, headValue, nIn, exponentIn, roundsIn, rowsAt, rowTag, rowLength, rowSize, tolerancesIn, rightSideIn, rightToleranceIn, rowsEnd, rowBytes, trialTag, trialKind, trialLength, trialSize}
-use Rattle.casefile.specs.declared.Case.{Case as Stored}
 use Rattle.casefile.specs.declared.Reading.{Reading}
-
--- a field that is due: its tag and length, what its value is read as, whether that is within its limits, and its value's bytes
-pub record Due (A : Type 0) : Type 0 where
-  pub tag : ℕ
-  pub len : ℕ
-  pub read : List ℕ → A
-  pub fine : A → Bool
-  pub write : A → List ℕ
-
--- what is read of such a field at the front of s
-abbrev pub dueAt : {A : Type 0} → Due A → List ℕ → A
-dueAt d s = d .read (valueOf s)
-
--- "at each field 2 to 6 in turn": the field due at the front of s, and then whether its figures are within their limits
-abbrev pub dueStatus : {A : Type 0} → Due A → List ℕ → Status
-dueStatus d s = first (fieldStatus (d .tag) (d .len) s) (check (d .fine (dueAt d s)) OutsideLimits)
+use Rattle.casefile.specs.declared.StoredCase.{StoredCase}
 
 -- ---- the head: n, e, K
 
@@ -73,10 +56,10 @@ headStatus s = dueStatus headDue s
 unfoldable pub rowOf : ℕ → List ℕ → Block
 rowOf n v =
     block
-    (figures i16 n v)
-    (figures u16 n (drop (tolerancesIn n) v))
-    (figures i32 1 (drop (rightSideIn n) v))
-    (figures u32 1 (drop (rightToleranceIn n) v))
+    (figures i16Kind n v)
+    (figures u16Kind n (drop (tolerancesIn n) v))
+    (figures i32Kind 1 (drop (rightSideIn n) v))
+    (figures u32Kind 1 (drop (rightToleranceIn n) v))
 
 abbrev pub rowDue : ℕ → Due Block
 rowDue n = record { tag = rowTag; len = rowLength n; read = rowOf n; fine = rowsFine; write = rowBytes }
@@ -99,18 +82,13 @@ rowsOf n m s = items (rowSize n) (rowAt n) m s
 -- ---- the trial, where K is 0
 
 abbrev pub trialDue : ℕ → Due (List ℤ)
-trialDue n = record { tag = trialTag; len = trialLength n; read = figures trialKind n; fine = allWithin trialLimit; write = spread trialKind }
+trialDue n = record { tag = trialTag; len = trialLength n; read = figures trialKind n; fine = allWithinLimit trialLimit; write = spread trialKind }
 
 unfoldable pub trialStatus : ℕ → ℕ → List ℕ → Status
-trialStatus k n s = whereBrought k (dueStatus (trialDue n) s) Accepted
+trialStatus k n s = whereTrialGiven k (dueStatus (trialDue n) s) Accepted
 
 unfoldable pub trialOf : ℕ → ℕ → List ℕ → List ℤ
-trialOf k n s = whereBrought k (dueAt (trialDue n) s) []
-
--- ---- the end: "Nothing follows."
-
-unfoldable pub endStatus : List ℕ → Status
-endStatus s = first (fieldStatus endTag endLength s) (check (eqb (length s) endSize) TrailingBytes)
+trialOf k n s = whereTrialGiven k (dueAt (trialDue n) s) []
 
 -- what follows the rows: the trial and the end
 unfoldable pub tailStatus : ℕ → ℕ → List ℕ → Status
@@ -158,24 +136,24 @@ abbrev pub places : Block
 places = block (replicate mostCoefficients (pos 0)) (replicate mostCoefficients 0) (replicate mostTanks (pos 0)) (replicate mostTanks 0)
 
 -- the rows that a case holds, with zeros behind them
-abbrev pub heldRows : Stored → Block
+abbrev pub heldRows : StoredCase → Block
 heldRows c = block (c .coefficients) (c .tolerances) (c .«right_sides») (c .«right_tolerances»)
 
-abbrev pub held : ℕ → ℕ → ℕ → Block → List ℤ → Stored
+abbrev pub held : ℕ → ℕ → ℕ → Block → List ℤ → StoredCase
 held n exponent rounds rows trial =
     record {
       n = n;
       exponent = exponent;
       rounds = rounds;
-      coefficients = rows .coefficients;
-      tolerances = rows .tolerances;
-      «right_sides» = rows .right-sides;
-      «right_tolerances» = rows .right-tolerances;
+      coefficients = rows .A;
+      tolerances = rows .E;
+      «right_sides» = rows .b;
+      «right_tolerances» = rows .f;
       trial = trial;
     }
 
-unfoldable pub stored : Case → Stored
-stored c = held (c .n) (c .exponent) (c .rounds) (over (c .rows) places) (padded mostTanks (pos 0) (c .trial))
+unfoldable pub stored : Case → StoredCase
+stored c = held (c .n) (c .exponent) (c .rounds) (over (c .rows) places) (padded mostTanks (pos 0) (c .Y))
 
 -- the case beside a refusal: all zeros
 abbrev pub noCase : Case
@@ -184,3 +162,8 @@ noCase = caseWith 0 0 0 noRow []
 unfoldable pub reading : Decoded → Reading
 reading (accepted c) = record { status = Accepted; case = stored c }
 reading (refused r) = record { status = Refused r; case = stored noCase }
+
+-- what is promised of a reading: the status by the paper's number, and the case
+pub record CaseRead (d : Decoded) (r : Reading) : Type 0 where
+  pub number : statusNumber (r .status) ≡ statusNumber (reading d .status)
+  pub case : r .case ≡ reading d .case

@@ -1,19 +1,20 @@
 -- Worked cases, by computation on the definitions: the case that document 01 prints, the longest case, and spoiled inputs with their refusals.
 -- Assumes nothing.
-use mathlib.Core.Path.{_≡_, refl}
-use mathlib.Core.List.{List, [], _∷_, _++_, map}
 use Prim.Native.Nat.{ℕ, _+_}
-use lib.ListN.{length, take, drop}
 use lib.IntN.{pos, negsuc}
-use Rattle.outcome.specs.declared.Refusal.the-variants.{FieldMissing, WrongTag, WrongLength, ValueCutShort, OutsideLimits, TrailingBytes}
-use Rattle.bigendian.specs.Number.{be, bytes}
+use lib.ListN.{length, take, drop}
+use mathlib.Core.List.{List, [], _∷_, _++_, map}
+use mathlib.Core.Path.{_≡_, refl}
 use Rattle.buffer.specs.Buffer.{all}
-use Rattle.figures.specs.Figures.{i16, items, spread}
-use Rattle.fields.specs.Field.{headerSize, field, fieldStatus}
 use Rattle.rows.specs.Block.{split}
-use Rattle.casefile.specs.Case.{Case, given, rowsFine}
+use Rattle.outcome.specs.declared.Refusal.the-variants.{FieldMissing, WrongTag, WrongLength, ValueCutShort, OutsideLimits, TrailingBytes}
+use Rattle.bigendian.specs.Number.{be, beBytes}
+use Rattle.figures.specs.Figures.{i16Kind, items, spread}
+use Rattle.fields.specs.Due.{endStatus}
+use Rattle.fields.specs.Field.{headerSize, field, fieldStatus}
+use Rattle.casefile.specs.Case.{Case, caseOfLists, rowsFine}
+use Rattle.casefile.specs.Decode.{headStatus, rowOf, rowStatus, rowsStatus, trialStatus, trialOf, tailStatus, inputStatus, caseOf, Decoded, accepted, refused, decode}
 use Rattle.casefile.specs.Layout.{rowsAt, longestCase, rowBytes, encode}
-use Rattle.casefile.specs.Decode.{headStatus, rowOf, rowStatus, rowsStatus, trialStatus, trialOf, endStatus, tailStatus, inputStatus, caseOf, Decoded, accepted, refused, decode}
 
 -- `01 0003 01 01 01 02 000C 0005 0000 FFFFFFFE 00000000 FF 0000`
 abbrev pub printedBytes : List ℕ
@@ -24,7 +25,7 @@ printedBytes =
     ∷ []
 
 abbrev printedCase : Case
-printedCase = given 1 1 1 (pos 5 ∷ []) (0 ∷ []) (negsuc 1 ∷ []) (0 ∷ []) []
+printedCase = caseOfLists 1 1 1 (pos 5 ∷ []) (0 ∷ []) (negsuc 1 ∷ []) (0 ∷ []) []
 
 -- eight rows, and the trial that the case brings
 abbrev long : List ℕ
@@ -50,7 +51,7 @@ long =
 
 abbrev longCase : Case
 longCase =
-    given 8 3 0
+    caseOfLists 8 3 0
     (pos 0 ∷ negsuc 776 ∷ negsuc 1553 ∷ negsuc 2330 ∷ negsuc 3107 ∷ negsuc 3884 ∷ negsuc 4661 ∷ negsuc 5438
     ∷ pos 1000 ∷ pos 223 ∷ negsuc 553 ∷ negsuc 1330 ∷ negsuc 2107 ∷ negsuc 2884 ∷ negsuc 3661 ∷ negsuc 4438
     ∷ pos 2000 ∷ pos 1223 ∷ pos 446 ∷ negsuc 330 ∷ negsuc 1107 ∷ negsuc 1884 ∷ negsuc 2661 ∷ negsuc 3438
@@ -76,7 +77,7 @@ pub long-length : length long ≡ longestCase
 long-length = refl
 
 pub encodings : map encode (printedCase ∷ longCase ∷ []) ≡ printedBytes ∷ long ∷ []
-unfolding bytes spread field rowBytes split encode
+unfolding beBytes spread field rowBytes split encode
 encodings = refl
 
 -- n 9
@@ -85,7 +86,7 @@ nineTanks = 0x01 ∷ 0x00 ∷ 0x03 ∷ 0x09 ∷ 0x01 ∷ 0x01 ∷ []
 
 -- coefficient −32,768, 8000: the printed case with it
 abbrev pub leastCoefficient : List ℕ
-leastCoefficient = take (rowsAt + headerSize) printedBytes ++ (0x80 ∷ 0x00 ∷ drop (rowsAt + headerSize + i16 .width) printedBytes)
+leastCoefficient = take (rowsAt + headerSize) printedBytes ++ (0x80 ∷ 0x00 ∷ drop (rowsAt + headerSize + i16Kind .width) printedBytes)
 
 -- in the order of the answers below: printed; longest; nothing at all; an end field at the head's place; a head of length 4; a head whose value is cut short;
 -- n 9; coefficient −32,768; a last field that is cut short; a byte behind the end field

@@ -1,15 +1,16 @@
+-- Definitions only.
 -- The bytes of a case: document 01, "Layout of case and record".
 use Prim.Native.Nat.{ℕ, _+_, _*_}
-use mathlib.Core.Path.{_≡_}
-use mathlib.Core.List.{List, [], _∷_, _++_, map}
 use lib.IntN.{ℤ}
+use mathlib.Core.List.{List, [], _∷_, _++_, map}
+use mathlib.Core.Path.{_≡_}
 use Rattle.buffer.specs.Buffer.{concat}
-use Rattle.figures.specs.Figures.{Kind, i16, u16, i32, u32, spread}
-use Rattle.fields.specs.Field.{headerSize, field, endField}
 use Rattle.rows.specs.Block.{Block, split}
+use Rattle.figures.specs.Figures.{Kind, i16Kind, u16Kind, i32Kind, u32Kind, spread}
+use Rattle.fields.specs.Field.{headerSize, field, endField}
+use Rattle.casefile.specs.Case.{Case, whereTrialGiven, trialCount}
 use Rattle.casefile.specs.declared.RowPlaces.{RowPlaces}
 use Rattle.casefile.specs.declared.TailPlaces.{TailPlaces}
-use Rattle.casefile.specs.Case.{Case, whereBrought, trialCount}
 
 -- ---- fields and their lengths
 
@@ -52,13 +53,13 @@ rowSize n = headerSize + rowLength n
 
 -- where the tolerances, b and f stand in a row's value: each behind the figures before it
 abbrev pub tolerancesIn : ℕ → ℕ
-tolerancesIn n = i16 .width * n
+tolerancesIn n = i16Kind .width * n
 
 abbrev pub rightSideIn : ℕ → ℕ
-rightSideIn n = tolerancesIn n + u16 .width * n
+rightSideIn n = tolerancesIn n + u16Kind .width * n
 
 abbrev pub rightToleranceIn : ℕ → ℕ
-rightToleranceIn n = rightSideIn n + i32 .width * 1
+rightToleranceIn n = rightSideIn n + i32Kind .width * 1
 
 -- the places and lengths of a row of n tanks, as the program holds them
 pub record RowPlaced (n : ℕ) (r : RowPlaces) : Type 0 where
@@ -77,13 +78,13 @@ trialTag = 0x03
 
 -- "n trial figures of 4 bytes", signed
 abbrev pub trialKind : Kind ℤ
-trialKind = i32
+trialKind = i32Kind
 
 abbrev pub trialLength : ℕ → ℕ
 trialLength n = trialKind .width * n
 
 abbrev pub trialSize : ℕ → ℕ → ℕ
-trialSize k n = whereBrought k (headerSize + trialLength n) 0
+trialSize k n = whereTrialGiven k (headerSize + trialLength n) 0
 
 -- where the end field stands
 abbrev pub endAt : ℕ → ℕ → ℕ
@@ -105,8 +106,8 @@ longestCase = 388
 -- "n coefficients of 2 bytes, n tolerances of 2 bytes (unsigned), b (4 bytes), f (4 bytes, unsigned)"
 unfoldable pub rowBytes : Block → List ℕ
 rowBytes r =
-    spread i16 (r .coefficients)
-    ++ (spread u16 (r .tolerances) ++ (spread i32 (r .right-sides) ++ spread u32 (r .right-tolerances)))
+    spread i16Kind (r .A)
+    ++ (spread u16Kind (r .E) ++ (spread i32Kind (r .b) ++ spread u32Kind (r .f)))
 
 abbrev pub rowField : Block → List ℕ
 rowField r = field rowTag (rowBytes r)
@@ -118,21 +119,21 @@ rowsIn c = split (c .n) (c .n) (c .rows)
 -- ---- the whole
 
 abbrev pub trialField : List ℤ → List ℕ
-trialField y = field trialTag (spread trialKind y)
+trialField Y = field trialTag (spread trialKind Y)
 
 -- "present exactly if K is 0"
 abbrev pub trialFields : ℕ → List ℤ → List (List ℕ)
-trialFields k y = whereBrought k (trialField y ∷ []) []
+trialFields k Y = whereTrialGiven k (trialField Y ∷ []) []
 
 -- the bytes of the trial's field, or none
 abbrev pub trialBytes : ℕ → List ℤ → List ℕ
-trialBytes k y = concat (trialFields k y)
+trialBytes k Y = concat (trialFields k Y)
 
 -- "A case is, in this order"
 abbrev pub fieldsOf : Case → List (List ℕ)
 fieldsOf c =
     headField (c .n) (c .exponent) (c .rounds)
-    ∷ (map rowField (rowsIn c) ++ (trialFields (c .rounds) (c .trial) ++ (endField ∷ [])))
+    ∷ (map rowField (rowsIn c) ++ (trialFields (c .rounds) (c .Y) ++ (endField ∷ [])))
 
 unfoldable pub encode : Case → List ℕ
 encode c = concat (fieldsOf c)

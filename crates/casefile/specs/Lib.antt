@@ -3,13 +3,12 @@ pub mod Layout
 pub mod Decode
 pub mod Write
 pub mod KindLaws
-pub mod AnswerLaws
-pub mod DueLaws
 pub mod SoundLaws
 pub mod RowLaws
 pub mod RowsLaws
 pub mod TailLaws
 pub mod CaseLaws
+pub mod PrefixLaws
 pub mod WriteLaws
 pub mod StoredLaws
 pub mod Examples

@@ -1,25 +1,25 @@
 -- A row and its bytes: a row that was written is read back, and the bytes that are read as a row are the row's.
 -- Assumes nothing.
-use mathlib.Core.Path.{_≡_, _∙_}
-use mathlib.Core.List.{List, _++_, append-assoc}
 use Prim.Native.Nat.{ℕ, _+_, _*_, _≤_}
-use native.Mathlib.Omega.{arith}
 use lib.ListN.{length, drop, length-append, length-drop}
 use lib.Seq.{drop-drop}
+use mathlib.Core.List.{List, _++_, append-assoc}
+use mathlib.Core.Path.{_≡_, _∙_}
+use native.Mathlib.Omega.{arith}
+use Rattle.limits.specs.Limits.{mostTanks}
+use Rattle.rows.specs.Block.{Block, Counts}
 use Rattle.outcome.specs.declared.Status.the-variants.{Accepted}
 use Rattle.bigendian.specs.Number.{Bytes}
 use Rattle.bigendian.specs.NumberLaws.{bytes-drop}
-use Rattle.figures.specs.Figures.{i16, u16, i32, u32, after}
-use Rattle.figures.specs.ItemLaws.{length-items}
 use Rattle.figures.specs.FigureLaws.{length-spread, after-spread, figures-spread, spread-figures}
+use Rattle.figures.specs.Figures.{i16Kind, u16Kind, i32Kind, u32Kind, after}
+use Rattle.figures.specs.ItemLaws.{length-items}
+use Rattle.fields.specs.DueLaws.{DueBack, due-back, due-fine, due-same}
 use Rattle.fields.specs.Field.{valueOf}
 use Rattle.fields.specs.FieldLaws.{length-field}
-use Rattle.limits.specs.Limits.{mostTanks}
-use Rattle.rows.specs.Block.{Block, Counts}
-use Rattle.casefile.specs.Layout.{rowTag, rowLength, rowSize, rightToleranceIn, rowBytes, rowField}
 use Rattle.casefile.specs.Decode.{rowOf, rowAt, rowDue, rowStatus}
-use Rattle.casefile.specs.DueLaws.{DueBack, due-back, due-fine, due-same}
 use Rattle.casefile.specs.KindLaws.{coefficient-lawful, tolerance-lawful, right-side-lawful, right-tolerance-lawful}
+use Rattle.casefile.specs.Layout.{rowTag, rowLength, rowSize, rightToleranceIn, rowBytes, rowField}
 use Rattle.casefile.specs.SoundLaws.{SoundBlock, counts, sound, sound-fine}
 
 -- how long a row is, by its counts
@@ -38,13 +38,13 @@ module _ {n : ℕ} {r : Block} (s : SoundBlock n 1 r) (rest : List ℕ) where
       search (
         append-assoc,
         ← drop-drop,
-        after-spread i16,
-        after-spread u16,
-        after-spread i32,
-        figures-spread i16 _ coefficient-lawful,
-        figures-spread u16 _ tolerance-lawful,
-        figures-spread i32 _ right-side-lawful,
-        figures-spread u32 _ right-tolerance-lawful,
+        after-spread i16Kind,
+        after-spread u16Kind,
+        after-spread i32Kind,
+        figures-spread i16Kind _ coefficient-lawful,
+        figures-spread u16Kind _ tolerance-lawful,
+        figures-spread i32Kind _ right-side-lawful,
+        figures-spread u32Kind _ right-tolerance-lawful,
       )
 
   -- a row's field that was written
@@ -66,20 +66,20 @@ module _ (n : ℕ) (s : List ℕ) (accepted : rowStatus n s ≡ Accepted) where
   same : (v : List ℕ) → Bytes v → rowLength n ≤ length v → rowBytes (rowOf n v) ++ drop (rowLength n) v ≡ v
   unfolding rowBytes rowOf
   same v bv h =
-      let v1 : List ℕ = after i16 n v in
-      let v2 : List ℕ = after u16 n v1 in
-      let v3 : List ℕ = after i32 1 v2 in
-      let room : (i16 .width * n ≤ length v) × (u16 .width * n ≤ length v1) × (i32 .width * 1 ≤ length v2) × (u32 .width * 1 ≤ length v3) = simp length-drop (omega arith) in
-      let k : rowLength n ≡ rightToleranceIn n + u32 .width * 1 = omega arith in
+      let v1 : List ℕ = after i16Kind n v in
+      let v2 : List ℕ = after u16Kind n v1 in
+      let v3 : List ℕ = after i32Kind 1 v2 in
+      let room : (i16Kind .width * n ≤ length v) × (u16Kind .width * n ≤ length v1) × (i32Kind .width * 1 ≤ length v2) × (u32Kind .width * 1 ≤ length v3) = simp length-drop (omega arith) in
+      let k : rowLength n ≡ rightToleranceIn n + u32Kind .width * 1 = omega arith in
       search (
         append-assoc,
         k,
         ← drop-drop,
         bytes-drop,
-        spread-figures u32 _ right-tolerance-lawful,
-        spread-figures i32 _ right-side-lawful,
-        spread-figures u16 _ tolerance-lawful,
-        spread-figures i16 _ coefficient-lawful,
+        spread-figures u32Kind _ right-tolerance-lawful,
+        spread-figures i32Kind _ right-side-lawful,
+        spread-figures u16Kind _ tolerance-lawful,
+        spread-figures i16Kind _ coefficient-lawful,
       )
 
   pub row-same : Bytes s → rowField (rowAt n s) ++ drop (rowSize n) s ≡ s

@@ -1,26 +1,26 @@
 -- Rows one after another: their fields are read back, and bytes that are read as rows are the rows' fields.
 -- Assumes nothing.
-use mathlib.Core.Path.{_≡_, refl}
-use mathlib.Core.List.{List, _∷_, _++_, append-assoc}
 use Prim.Native.Nat.{ℕ, zero, suc, _*_, _≤_}
-use native.Mathlib.Omega.{arith}
-use native.Mathlib.Nat.{zero-mul, mul-le-mul}
 use lib.ListN.{length, drop}
 use lib.Seq.{drop-at}
-use Rattle.outcome.specs.declared.Status.the-variants.{Accepted}
+use mathlib.Core.List.{List, _∷_, _++_, append-assoc}
+use mathlib.Core.Path.{_≡_, refl}
+use native.Mathlib.Nat.{zero-mul, mul-le-mul}
+use native.Mathlib.Omega.{arith}
+use Rattle.limits.specs.Limits.{mostTanks, mostCoefficients}
+use Rattle.buffer.specs.Buffer.{joined}
+use Rattle.rows.specs.Block.{Block}
 use Rattle.outcome.specs.Laws.{first-left, first-right}
+use Rattle.outcome.specs.declared.Status.the-variants.{Accepted}
 use Rattle.bigendian.specs.Number.{Bytes}
 use Rattle.bigendian.specs.NumberLaws.{bytes-drop}
-use Rattle.buffer.specs.Buffer.{joined}
 use Rattle.figures.specs.Figures.{items}
 use Rattle.figures.specs.ItemLaws.{length-joined, items-same}
-use Rattle.limits.specs.Limits.{mostTanks, mostCoefficients}
-use Rattle.rows.specs.Block.{Block}
-use Rattle.casefile.specs.Layout.{rowSize, rowField}
+use Rattle.fields.specs.DueLaws.{FieldBack}
 use Rattle.casefile.specs.Decode.{rowAt, rowStatus, rowsStatus, rowsOf}
-use Rattle.casefile.specs.DueLaws.{FieldBack}
-use Rattle.casefile.specs.SoundLaws.{counts, Rows, none, one}
+use Rattle.casefile.specs.Layout.{rowSize, rowField}
 use Rattle.casefile.specs.RowLaws.{length-row-field, row-back, row-sound, row-same}
+use Rattle.casefile.specs.SoundLaws.{counts, Rows, none, one}
 
 -- ---- rows that were written, with what follows them
 

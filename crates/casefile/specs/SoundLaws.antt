@@ -1,19 +1,19 @@
 -- Lists and blocks of rows that are counted and within their limits: they stay so in a part and in the whole, and a block is its rows put together.
 -- Assumes nothing.
-use mathlib.Core.Path.{_≡_, refl}
-use mathlib.Core.List.{List, [], _∷_, _++_}
-use mathlib.Core.Bool.{Bool, true}
 use Prim.Native.Nat.{ℕ, zero, suc, _+_, _*_}
-use native.Mathlib.Omega.{arith}
-use native.Mathlib.Nat.{zero-mul, le-of-eq}
 use lib.ListN.{length, take, drop, length-append, length-take, length-drop, take-append-drop}
 use lib.Seq.{take-all, take-at, drop-at}
-use Rattle.buffer.specs.Buffer.{all}
-use Rattle.figures.specs.Figures.{upTo, within}
-use Rattle.buffer.specs.AllLaws.{and-left, and-right, all-append, all-take, all-drop}
+use mathlib.Core.Bool.{Bool, true}
+use mathlib.Core.List.{List, [], _∷_, _++_}
+use mathlib.Core.Path.{_≡_, refl}
+use native.Mathlib.Nat.{zero-mul, le-of-eq}
+use native.Mathlib.Omega.{arith}
 use Rattle.limits.specs.Limits.{coefficientLimit, toleranceLimit, rightSideLimit, rightToleranceLimit}
+use Rattle.buffer.specs.AllLaws.{and-left, and-right, all-append, all-take, all-drop}
+use Rattle.buffer.specs.Buffer.{all}
 use Rattle.rows.specs.Block.{Block, Counts, front, behind, split, together}
 use Rattle.rows.specs.BlockLaws.{figures-more, rows-one-more}
+use Rattle.figures.specs.Figures.{upToLimit, withinLimit}
 use Rattle.casefile.specs.Case.{rowsFine}
 
 -- ---- a list of k figures that pass a test
@@ -39,10 +39,10 @@ module _ {X : Type 0} {p : X → Bool} where
 -- ---- a block of k coefficients and tolerances, and of m right sides and theirs
 
 pub record SoundBlock (k m : ℕ) (r : Block) : Type 0 where
-  pub a : Sound (within coefficientLimit) k (r .coefficients)
-  pub t : Sound (upTo toleranceLimit) k (r .tolerances)
-  pub b : Sound (within rightSideLimit) m (r .right-sides)
-  pub f : Sound (upTo rightToleranceLimit) m (r .right-tolerances)
+  pub A : Sound (withinLimit coefficientLimit) k (r .A)
+  pub E : Sound (upToLimit toleranceLimit) k (r .E)
+  pub b : Sound (withinLimit rightSideLimit) m (r .b)
+  pub f : Sound (upToLimit rightToleranceLimit) m (r .f)
 
 pub counts : {k m : ℕ} {r : Block} → SoundBlock k m r → Counts k m r
 counts s = search

@@ -1,23 +1,25 @@
 -- What a padded list holds: at every place, past the end too, what the list holds there, with zero past its end.
 -- And what a reading tells of the bytes that were read. Assumes nothing.
-use mathlib.Core.Path.{_≡_, refl, ap, _∙_}
-use mathlib.Core.List.{List, [], _∷_, _++_}
 use Prim.Native.Nat.{ℕ, zero, suc, _+_, _≤_}
-use lib.ListN.{length, getD, drop, replicate}
-use native.Mathlib.Omega.{arith}
-use lib.Seq.{getD-drop}
 use borrow.Author.Tests.{leb-true, le-leb}
-use Rattle.integers.specs.Tables.{same-at}
-use Rattle.figures.specs.Figures.{upTo}
+use lib.ListN.{length, getD, drop, replicate}
+use lib.Seq.{getD-drop}
+use mathlib.Core.List.{List, [], _∷_, _++_}
+use mathlib.Core.Path.{_≡_, refl, ap, ap₂, _∙_}
+use native.Mathlib.Omega.{arith}
 use Rattle.buffer.specs.AllLaws.{all-at}
+use Rattle.integers.specs.TableLaws.{same-at}
+use Rattle.outcome.specs.Laws.{same-status, not-both}
+use Rattle.outcome.specs.Outcome.{statusNumber}
 use Rattle.outcome.specs.declared.Refusal.{Refusal}
+use Rattle.outcome.specs.declared.Status.{Status}
 use Rattle.outcome.specs.declared.Status.the-variants.{Accepted, Refused}
-use Rattle.outcome.specs.Laws.{not-both}
-use Rattle.casefile.specs.declared.Case.{Case as Stored}
-use Rattle.casefile.specs.declared.Reading.{Reading}
+use Rattle.figures.specs.Figures.{upToLimit}
 use Rattle.casefile.specs.Case.{Case}
+use Rattle.casefile.specs.Decode.{Decoded, accepted, refused, padded, stored, reading, CaseRead}
 use Rattle.casefile.specs.SoundLaws.{Sound}
-use Rattle.casefile.specs.Decode.{Decoded, accepted, refused, padded, stored, reading}
+use Rattle.casefile.specs.declared.Reading.{Reading}
+use Rattle.casefile.specs.declared.StoredCase.{StoredCase}
 
 module _ {X : Type 0} (z : X) where
   behind : (l b : List X) → ((i : ℕ) → getD b i z ≡ z) → (i : ℕ) → getD (l ++ b) i z ≡ getD l i z
@@ -30,28 +32,42 @@ module _ {X : Type 0} (z : X) where
       behind l (drop (length l) (replicate k z)) (λ j. getD-drop (length l) (replicate k z) j z ∙ same-at z k (length l + j)) i
 
 -- each figure of a padded list is within the limit that the list's are, by the size that the limit is of
-pub padded-within : {X : Type 0} (size : X → ℕ) (z : X) → size z ≡ 0 → (k limit : ℕ) {m : ℕ} {l : List X} → Sound (λ x. upTo limit (size x)) m l
+pub padded-within : {X : Type 0} (size : X → ℕ) (z : X) → size z ≡ 0 → (k limit : ℕ) {m : ℕ} {l : List X} → Sound (λ x. upToLimit limit (size x)) m l
     → (i : ℕ) → size (getD (padded k z l) i z) ≤ limit
 padded-within size z e k limit {l = l} s i =
-    rw (getD-padded z k l i) (leb-true _ _ (all-at (λ x. upTo limit (size x)) z (le-leb _ limit (omega arith)) l (s .fine) i))
+    rw (getD-padded z k l i) (leb-true _ _ (all-at (λ x. upToLimit limit (size x)) z (le-leb _ limit (omega arith)) l (s .fine) i))
 
 -- ---- what a reading tells
 
 -- the case that was read, and how it is held
-pub record Whole (d : Decoded) (held-case : Stored) : Type 0 where
+pub record Whole (d : Decoded) (held-case : StoredCase) : Type 0 where
   pub figures : Case
   pub decoded : d ≡ accepted figures
   pub held : held-case ≡ stored figures
 
-pub reading-accepted : (d : Decoded) (r : Reading) → r ≡ reading d → r .status ≡ Accepted → Whole d (r .case)
-unfolding reading
-reading-accepted (accepted c) r e h = record { figures = c; decoded = refl; held = ap (λ r. r .case) e }
-reading-accepted (refused q) r e h = not-both (r .status) q (ap (λ r. r .status) e) h
+module _ (d : Decoded) (r : Reading) where
+  pub case-read : r ≡ reading d → CaseRead d r
+  case-read e = record { number = ap (λ x. statusNumber (x .status)) e; case = ap (λ x. x .case) e }
 
-pub reading-refused : (d : Decoded) (r : Reading) → r ≡ reading d → (q : Refusal) → r .status ≡ Refused q → d ≡ refused q
+  status-read : CaseRead d r → r .status ≡ reading d .status
+  status-read w = same-status (r .status) (reading d .status) (w .number)
+
+  -- and so the reading itself
+  pub read-is : CaseRead d r → r ≡ reading d
+  read-is w = ap₂ made (status-read w) (w .case)
+    where
+      made : Status → StoredCase → Reading
+      made x c = record { status = x; case = c }
+
+pub reading-accepted : (d : Decoded) (r : Reading) → CaseRead d r → r .status ≡ Accepted → Whole d (r .case)
 unfolding reading
-reading-refused (accepted c) r e q h = not-both (r .status) q h (ap (λ r. r .status) e)
-reading-refused (refused x) r e q h =
-    let t : r .status ≡ Refused x = ap (λ r. r .status) e in
+reading-accepted (accepted c) r w h = record { figures = c; decoded = refl; held = w .case }
+reading-accepted (refused q) r w h = not-both (r .status) q (status-read (refused q) r w) h
+
+pub reading-refused : (d : Decoded) (r : Reading) → CaseRead d r → (q : Refusal) → r .status ≡ Refused q → d ≡ refused q
+unfolding reading
+reading-refused (accepted c) r w q h = not-both (r .status) q h (status-read (accepted c) r w)
+reading-refused (refused x) r w q h =
+    let t : r .status ≡ Refused x = status-read (refused x) r w in
     let s : x ≡ q = cc in
     ap refused s

@@ -1,7 +1,7 @@
 // A case as the program holds it, what reading gives, whether n, e and K are within their limits, and the tags, lengths and places of its fields in bytes,
 // with how many figures the trial has.
-ghost use mathlib.Core.Path.{_≡_};
 ghost use Prim.Native.Nat.{_≤_};
+ghost use mathlib.Core.Path.{_≡_};
 ghost use Rattle.limits.specs.Limits.{mostTanks};
 ghost use Rattle.casefile.specs.Case.{headFine};
 ghost use Rattle.casefile.specs.Layout.{RowPlaced, TailPlaced};
@@ -33,7 +33,7 @@ pub const ROWS_AT: usize = fields::HEADER_SIZE + HEAD_LENGTH;
 
 // The figures of a case: n, the exponent e, the rounds K; coefficients and tolerances row after row, row i from i * n on;
 // the right sides, their tolerances and the trial. Places past the used ones are zero.
-pub struct Case {
+pub struct StoredCase {
     pub n: usize,
     pub exponent: usize,
     pub rounds: usize,
@@ -47,7 +47,7 @@ pub struct Case {
 // What reading a file gives: the case, or the first refusal beside a case of zeros.
 pub struct Reading {
     pub status: Status,
-    pub case: Case,
+    pub case: StoredCase,
 }
 
 // The places of a row's parts in its value, and the lengths of value and field, for n tanks.

@@ -1,13 +1,13 @@
 // Words and decimal numbers as bytes in a buffer. Each writer writes from the place `at` on, changes nothing else, and returns the place
 // after what it wrote.
-use integers::magnitude;
-use integers::power_of_ten;
-ghost use mathlib.Core.Path.{_≡_};
 ghost use Prim.Native.Nat.{_≤_};
 ghost use lib.ListN.{length};
+ghost use mathlib.Core.Path.{_≡_};
 ghost use Rattle.limits.specs.Limits.{mostExponent};
 ghost use Rattle.buffer.specs.Buffer.{Room, Wrote};
-ghost use Rattle.decimal.specs.Decimal.{digits, «last-digits», minus, signed, fraction, «fixed-point»};
+ghost use Rattle.decimal.specs.Decimal.{decimalDigits, lastDigits, minusSign, signedDecimal, fraction, fixedPoint};
+use integers::magnitude;
+use integers::power_of_ten;
 
 // Copies the bytes of a word.
 pub fn write_bytes(word: &[u8], at: usize, out: &mut [u8]) -> usize
@@ -26,7 +26,7 @@ pub fn write_bytes(word: &[u8], at: usize, out: &mut [u8]) -> usize
 
 // How many digits x has.
 fn digit_count(x: u64) -> usize
-    ensures { λ r. ⌜ r ≡ length (digits x) ⌝ }
+    ensures { λ r. ⌜ r ≡ length (decimalDigits x) ⌝ }
 {
     let mut rest = x;
     let mut count = 1;
@@ -39,8 +39,8 @@ fn digit_count(x: u64) -> usize
 
 // The last digits of x, as many as `count` says, with leading zeros; written from the last one back.
 fn write_last_digits(x: u64, count: usize, at: usize, out: &mut [u8]) -> usize
-    requires { ⌜ Room (last-digits count x) at (now out) ⌝ }
-    ensures { λ r. ⌜ Wrote (last-digits count x) at (now (out .entry)) r (now (out .exit)) ⌝ }
+    requires { ⌜ Room (lastDigits count x) at (now out) ⌝ }
+    ensures { λ r. ⌜ Wrote (lastDigits count x) at (now (out .entry)) r (now (out .exit)) ⌝ }
 {
     let mut rest = x;
     let mut left = count;
@@ -54,16 +54,16 @@ fn write_last_digits(x: u64, count: usize, at: usize, out: &mut [u8]) -> usize
 
 // A whole number without leading zeros.
 pub fn write_unsigned(x: u64, at: usize, out: &mut [u8]) -> usize
-    requires { ⌜ Room (digits x) at (now out) ⌝ }
-    ensures { λ r. ⌜ Wrote (digits x) at (now (out .entry)) r (now (out .exit)) ⌝ }
+    requires { ⌜ Room (decimalDigits x) at (now out) ⌝ }
+    ensures { λ r. ⌜ Wrote (decimalDigits x) at (now (out .entry)) r (now (out .exit)) ⌝ }
 {
     write_last_digits(x, digit_count(x), at, out)
 }
 
 // A minus, where x is below zero.
 fn write_minus(x: i64, at: usize, out: &mut [u8]) -> usize
-    requires { ⌜ Room (minus x) at (now out) ⌝ }
-    ensures { λ r. ⌜ Wrote (minus x) at (now (out .entry)) r (now (out .exit)) ⌝ }
+    requires { ⌜ Room (minusSign x) at (now out) ⌝ }
+    ensures { λ r. ⌜ Wrote (minusSign x) at (now (out .entry)) r (now (out .exit)) ⌝ }
 {
     if x < 0 {
         out[at] = b'-';
@@ -74,8 +74,8 @@ fn write_minus(x: i64, at: usize, out: &mut [u8]) -> usize
 
 // A whole number of either sign.
 pub fn write_signed(x: i64, at: usize, out: &mut [u8]) -> usize
-    requires { ⌜ Room (signed x) at (now out) ⌝ }
-    ensures { λ r. ⌜ Wrote (signed x) at (now (out .entry)) r (now (out .exit)) ⌝ }
+    requires { ⌜ Room (signedDecimal x) at (now out) ⌝ }
+    ensures { λ r. ⌜ Wrote (signedDecimal x) at (now (out .entry)) r (now (out .exit)) ⌝ }
 {
     let next = write_minus(x, at, out);
     write_unsigned(magnitude(x), next, out)
@@ -95,8 +95,8 @@ fn write_fraction(x: u64, e: usize, at: usize, out: &mut [u8]) -> usize
 
 // x / 10^e: its sign, the whole part, and for e above 0 a point and e digits.
 pub fn write_fixed_point(x: i64, e: usize, at: usize, out: &mut [u8]) -> usize
-    requires { ⌜ (e ≤ mostExponent) × Room (fixed-point e x) at (now out) ⌝ }
-    ensures { λ r. ⌜ Wrote (fixed-point e x) at (now (out .entry)) r (now (out .exit)) ⌝ }
+    requires { ⌜ (e ≤ mostExponent) × Room (fixedPoint e x) at (now out) ⌝ }
+    ensures { λ r. ⌜ Wrote (fixedPoint e x) at (now (out .entry)) r (now (out .exit)) ⌝ }
 {
     let size = magnitude(x);
     let unit = power_of_ten(e) as u64;

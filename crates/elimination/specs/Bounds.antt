@@ -1,22 +1,24 @@
 -- Why no number of a step wraps: a multiplier is at most 16,384, and an entry at most doubles in a step. Rests on the laws of rnd alone.
 -- Assumes nothing.
-use mathlib.Core.Path.{_≡_, ap}
-use mathlib.Core.List.{List, []}
 use Prim.Native.Nat.{ℕ, _+_, _*_, _-_, _^_, _<_, _≤_}
-use native.Mathlib.Omega.{arith}
-use lib.ListN.{getD, length}
 use lib.IntN.{ℤ, pos, natAbs, _*ℤ_}
+use lib.ListN.{getD, length}
 use lib.Pow.{pow-mono, pow-add, pow-pos}
+use mathlib.Core.List.{List, []}
+use mathlib.Core.Path.{_≡_, ap}
+use native.Mathlib.Omega.{arith}
 use Rattle.limits.specs.Limits.{mostTanks}
 use Rattle.integers.specs.Size.{natAbs-subℤ, product-ok}
-use Rattle.integers.specs.Tables.{fill, all-fill, fill-none, Within, AllWithin, within-set}
-use Rattle.rounding.specs.Round.{rnd}
+use Rattle.integers.specs.TableLaws.{all-fill, fill-none, within-set}
+use Rattle.integers.specs.Tables.{fill, Within, AllWithin}
 use Rattle.rounding.specs.Laws.{rnd-le}
-use Rattle.elimination.specs.Matrix.{at}
-use Rattle.elimination.specs.Steps.{pivot-row, exchange, multiplier, reduced, eliminated-row, row-below, eliminated-below}
-use Rattle.elimination.specs.Conditions.{bound, Dividing, Ready, Pivoted}
+use Rattle.rounding.specs.Round.{rnd}
+use Rattle.rounding.specs.Scale.{multiplierScale}
+use Rattle.elimination.specs.Conditions.{bound, Dividing, RowEliminable, Pivoted}
 use Rattle.elimination.specs.Laws.{transposed, transposed-cases, transposed-first, exchange-at}
+use Rattle.elimination.specs.Matrix.{at}
 use Rattle.elimination.specs.Pivot.{Best, pivot-best, nonzero-in}
+use Rattle.elimination.specs.Steps.{pivotRow, exchange, multiplier, reducedEntry, eliminatedRow, rowBelow, eliminatedBelow}
 
 pub bound-le : (k : ℕ) → k < mostTanks → bound k ≤ 2 ^ 30
 bound-le k h = omega (arith, pow-mono {i = k} {j = 7} (omega arith))
@@ -26,12 +28,12 @@ bound-suc k = omega (arith, ap (λ (x : ℕ). x * 2 ^ 23) (pow-add 2 k 1))
 
 -- ---- a multiplier
 
-pub divided-le : (entry pivot : ℤ) → Dividing entry pivot → natAbs (rnd (pos 16384 *ℤ entry) pivot) ≤ 16384
-divided-le entry pivot h = rnd-le (pos 16384 *ℤ entry) pivot 16384 (product-ok (pos 16384) entry 16384 (natAbs pivot) (omega arith) (h .largest))
+pub divided-le : (entry pivot : ℤ) → Dividing entry pivot → natAbs (rnd (pos multiplierScale *ℤ entry) pivot) ≤ multiplierScale
+divided-le entry pivot h = rnd-le (pos multiplierScale *ℤ entry) pivot multiplierScale (product-ok (pos multiplierScale) entry multiplierScale (natAbs pivot) (omega arith) (h .largest))
 
 -- ---- a row
 
-module _ (top row : List ℤ) (k n : ℕ) (h : Ready top row k n) where
+module _ (top row : List ℤ) (k n : ℕ) (h : RowEliminable top row k n) where
   small : bound k ≤ 2 ^ 30
   small = let b = h .below in let c = h .few in bound-le k (omega arith)
 
@@ -44,34 +46,34 @@ module _ (top row : List ℤ) (k n : ℕ) (h : Ready top row k n) where
   pub dividing : Dividing (getD row k (pos 0)) (getD top k (pos 0))
   dividing = record { some = h .pivot; largest = h .largest; small = top-le k }
 
-  pub multiplier-le : natAbs (multiplier top row k) ≤ 16384
+  pub multiplier-le : natAbs (multiplier top row k) ≤ multiplierScale
   multiplier-le = divided-le (getD row k (pos 0)) (getD top k (pos 0)) dividing
 
-  product-in : (j : ℕ) → natAbs (multiplier top row k *ℤ getD top j (pos 0)) ≤ bound k * 16384
+  product-in : (j : ℕ) → natAbs (multiplier top row k *ℤ getD top j (pos 0)) ≤ bound k * multiplierScale
   product-in j =
-      omega (arith, product-ok (multiplier top row k) (getD top j (pos 0)) 16384 (bound k) multiplier-le (h .top-in j))
+      omega (arith, product-ok (multiplier top row k) (getD top j (pos 0)) multiplierScale (bound k) multiplier-le (h .top-in j))
 
   pub product-le : (j : ℕ) → natAbs (multiplier top row k *ℤ getD top j (pos 0)) ≤ 2 ^ 44
   product-le j = omega (arith, product-in j, small)
 
-  loss-in : (j : ℕ) → natAbs (rnd (multiplier top row k *ℤ getD top j (pos 0)) (pos 16384)) ≤ bound k
-  loss-in j = rnd-le (multiplier top row k *ℤ getD top j (pos 0)) (pos 16384) (bound k) (product-in j)
+  loss-in : (j : ℕ) → natAbs (rnd (multiplier top row k *ℤ getD top j (pos 0)) (pos multiplierScale)) ≤ bound k
+  loss-in j = rnd-le (multiplier top row k *ℤ getD top j (pos 0)) (pos multiplierScale) (bound k) (product-in j)
 
-  pub loss-le : (j : ℕ) → natAbs (rnd (multiplier top row k *ℤ getD top j (pos 0)) (pos 16384)) ≤ 2 ^ 30
+  pub loss-le : (j : ℕ) → natAbs (rnd (multiplier top row k *ℤ getD top j (pos 0)) (pos multiplierScale)) ≤ 2 ^ 30
   loss-le j = omega (arith, loss-in j, small)
 
-  reduced-in : (j : ℕ) → natAbs (reduced (multiplier top row k) top row j) ≤ bound k + bound k
+  reduced-in : (j : ℕ) → natAbs (reducedEntry (multiplier top row k) top row j) ≤ bound k + bound k
   reduced-in j =
-      omega (arith, natAbs-subℤ (getD row j (pos 0)) (rnd (multiplier top row k *ℤ getD top j (pos 0)) (pos 16384)), h .row-in j, loss-in j)
+      omega (arith, natAbs-subℤ (getD row j (pos 0)) (rnd (multiplier top row k *ℤ getD top j (pos 0)) (pos multiplierScale)), h .row-in j, loss-in j)
 
-  pub reduced-le : (j : ℕ) → natAbs (reduced (multiplier top row k) top row j) ≤ 2 ^ 31
+  pub reduced-le : (j : ℕ) → natAbs (reducedEntry (multiplier top row k) top row j) ≤ 2 ^ 31
   reduced-le j = omega (arith, reduced-in j, small)
 
   -- an eliminated row
-  pub row-grows : Within (bound (k + 1)) (eliminated-row top row k n)
-  unfolding eliminated-row
+  pub row-grows : Within (bound (k + 1)) (eliminatedRow top row k n)
+  unfolding eliminatedRow
   row-grows =
-      let f = reduced (multiplier top row k) top row in
+      let f = reducedEntry (multiplier top row k) top row in
       rw (bound-suc k)
       (within-set (fill f (k + 1) (n - (k + 1)) row) k (multiplier top row k)
       (omega (arith, multiplier-le, pow-pos k))
@@ -82,7 +84,7 @@ module _ (top row : List ℤ) (k n : ℕ) (h : Ready top row k n) where
 -- ---- a step
 
 -- row i below the pivot's is ready
-pub ready : (w : List (List ℤ)) (k n i : ℕ) → Pivoted w k n → k < i → i < n → Ready (getD w k []) (getD w i []) k n
+pub ready : (w : List (List ℤ)) (k n i : ℕ) → Pivoted w k n → k < i → i < n → RowEliminable (getD w k []) (getD w i []) k n
 ready w k n i h p q =
     record {
       below = h .below;
@@ -93,22 +95,22 @@ ready w k n i h p q =
       largest = h .largest i p q;
     }
 
-pub step-grows : (w : List (List ℤ)) (k n : ℕ) → Pivoted w k n → AllWithin (bound (k + 1)) (eliminated-below w k n)
-unfolding eliminated-below
+pub step-grows : (w : List (List ℤ)) (k n : ℕ) → Pivoted w k n → AllWithin (bound (k + 1)) (eliminatedBelow w k n)
+unfolding eliminatedBelow
 step-grows w k n h =
-    all-fill (Within (bound (k + 1))) [] (row-below w k n) (k + 1) (n - (k + 1)) w
+    all-fill (Within (bound (k + 1))) [] (rowBelow w k n) (k + 1) (n - (k + 1)) w
     (λ i p q. let b = h .below in row-grows (getD w k []) (getD w i []) k n (ready w k n i h (omega arith) (omega arith)))
     (λ i j. rw (bound-suc k) (omega (arith, h .all-in i j)))
 
 -- the last step has no row below it
-pub last-step : (w : List (List ℤ)) (k n : ℕ) → n ≤ k + 1 → eliminated-below w k n ≡ w
-unfolding eliminated-below
-last-step w k n h = fill-none (row-below w k n) (k + 1) n w h
+pub last-step : (w : List (List ℤ)) (k n : ℕ) → n ≤ k + 1 → eliminatedBelow w k n ≡ w
+unfolding eliminatedBelow
+last-step w k n h = fill-none (rowBelow w k n) (k + 1) n w h
 
 -- the exchange brings the pivot up
-module _ (w : List (List ℤ)) (k n : ℕ) (h : k < n) (hp : 0 < natAbs (at w (pivot-row w k n) k)) where
+module _ (w : List (List ℤ)) (k n : ℕ) (h : k < n) (hp : 0 < natAbs (at w (pivotRow w k n) k)) where
   abbrev p′ : ℕ
-  p′ = pivot-row w k n
+  p′ = pivotRow w k n
 
   in-p : p′ < length w
   in-p = nonzero-in w p′ k hp
@@ -116,10 +118,10 @@ module _ (w : List (List ℤ)) (k n : ℕ) (h : k < n) (hp : 0 < natAbs (at w (p
   in-k : k < length w
   in-k = omega (arith, pivot-best w k n h .low, in-p)
 
-  pub exchanged-row : (i : ℕ) → getD (exchange [] w k (pivot-row w k n)) i [] ≡ getD w (transposed k (pivot-row w k n) i) []
+  pub exchanged-row : (i : ℕ) → getD (exchange [] w k (pivotRow w k n)) i [] ≡ getD w (transposed k (pivotRow w k n) i) []
   exchanged-row i = exchange-at [] w k p′ i in-k in-p
 
-  pub pivoted : n ≤ mostTanks → AllWithin (bound k) w → Pivoted (exchange [] w k (pivot-row w k n)) k n
+  pub pivoted : n ≤ mostTanks → AllWithin (bound k) w → Pivoted (exchange [] w k (pivotRow w k n)) k n
   pivoted h8 hw =
       record {
         below = h;

@@ -1,9 +1,10 @@
--- What the functions inside the elimination ask and promise of sizes. Definitions only. Assumes nothing.
-use mathlib.Core.Path.{_≡_}
-use mathlib.Core.List.{List}
+-- Definitions only.
+-- What the functions inside the elimination ask and promise of sizes.
 use Prim.Native.Nat.{ℕ, _*_, _^_, _<_, _≤_}
-use lib.ListN.{getD}
 use lib.IntN.{ℤ, pos, natAbs}
+use lib.ListN.{getD}
+use mathlib.Core.List.{List}
+use mathlib.Core.Path.{_≡_}
 use Rattle.limits.specs.Limits.{mostTanks}
 use Rattle.integers.specs.Tables.{Within, AllWithin}
 use Rattle.elimination.specs.Matrix.{at}
@@ -17,9 +18,9 @@ pub record StartRow (row expected : List ℤ) : Type 0 where
   pub is : row ≡ expected
   pub within : Within (bound 0) row
 
-pub record StartRows (rows expected : List (List ℤ)) : Type 0 where
-  pub are : rows ≡ expected
-  pub within : AllWithin (bound 0) rows
+pub record StartRows (working expected : List (List ℤ)) : Type 0 where
+  pub are : working ≡ expected
+  pub within : AllWithin (bound 0) working
 
 -- what a multiplier asks: a pivot that is not 0 and not above 2^30, and an entry that is not larger
 pub record Dividing (entry pivot : ℤ) : Type 0 where
@@ -28,7 +29,7 @@ pub record Dividing (entry pivot : ℤ) : Type 0 where
   pub small : natAbs pivot ≤ 2 ^ 30
 
 -- what the elimination of one row asks
-pub record Ready (top row : List ℤ) (k n : ℕ) : Type 0 where
+pub record RowEliminable (top row : List ℤ) (k n : ℕ) : Type 0 where
   pub below : k < n
   pub few : n ≤ mostTanks
   pub top-in : Within (bound k) top

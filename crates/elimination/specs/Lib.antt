@@ -11,4 +11,5 @@ pub mod Runs
 pub mod Factors
 pub mod Order
 pub mod OutcomeLaws
+pub mod SameFigures
 pub mod Examples

@@ -1,8 +1,9 @@
--- A matrix as a list of rows. Definitions only. Assumes nothing.
-use mathlib.Core.List.{List, []}
+-- Definitions only.
+-- A matrix as a list of rows.
 use Prim.Native.Nat.{ℕ}
-use lib.ListN.{getD}
 use lib.IntN.{ℤ, pos}
+use lib.ListN.{getD}
+use mathlib.Core.List.{List, []}
 
 -- the entry of row i, column j
 abbrev pub at : List (List ℤ) → ℕ → ℕ → ℤ

@@ -1,20 +1,20 @@
 -- The order that an elimination leaves is a permutation of the rows: each row below n stands at exactly one place below n. Assumes nothing.
-use mathlib.Core.Path.{_≡_, refl, sym, ap, _∙_}
-use mathlib.Core.List.{List}
 use Prim.Native.Nat.{ℕ, zero, suc, _<_, _≤_}
-use native.Mathlib.Omega.{arith}
-use lib.ListN.{getD, length-set}
 use lib.IntN.{ℤ}
+use lib.ListN.{getD, length-set}
+use mathlib.Core.List.{List}
+use mathlib.Core.Path.{_≡_, refl, sym, ap, _∙_}
+use native.Mathlib.Omega.{arith}
 use Rattle.limits.specs.Limits.{mostTanks}
-use Rattle.integers.specs.Tables.{getD-table}
-use Rattle.elimination.specs.Steps.{exchange, start-order, next-pivot, after-steps, eliminated}
+use Rattle.integers.specs.TableLaws.{getD-table}
 use Rattle.elimination.specs.Claims.{Place, Permutation}
 use Rattle.elimination.specs.Laws.{transposed, transposed-below, transposed-twice, exchange-at}
 use Rattle.elimination.specs.Pivot.{pivot-best}
 use Rattle.elimination.specs.Runs.{advanced-cases, steps-few}
+use Rattle.elimination.specs.Steps.{exchange, startOrder, nextPivot, afterSteps, eliminated}
 
 -- at the start place i holds row i
-start : (n : ℕ) → n ≤ mostTanks → Permutation n start-order
+start : (n : ℕ) → n ≤ mostTanks → Permutation n startOrder
 start n h =
     record {
       eight = refl;
@@ -23,7 +23,7 @@ start n h =
       one = λ i j p q e. sym (own i p) ∙ e ∙ own j q;
     }
   where
-    own : (i : ℕ) → i < n → getD start-order i 0 ≡ i
+    own : (i : ℕ) → i < n → getD startOrder i 0 ≡ i
     own i l = getD-table mostTanks (λ m. m) i 0 (omega arith)
 
 -- an exchange of two places below n
@@ -53,16 +53,16 @@ exchanged n o k p h8 hk hp s =
           holds = read (transposed k p (t .place)) ∙ rw (transposed-twice k p (t .place)) (t .holds);
         }
 
-after : (n : ℕ) (a : List ℤ) → n ≤ mostTanks → (k : ℕ) → k ≤ n → Permutation n (after-steps n a k .order)
-unfolding after-steps
+after : (n : ℕ) (a : List ℤ) → n ≤ mostTanks → (k : ℕ) → k ≤ n → Permutation n (afterSteps n a k .order)
+unfolding afterSteps
 after n a h8 zero l = start n h8
 after n a h8 (suc k) l =
     let s = after n a h8 k (omega arith) in
-    let r = after-steps n a k in
+    let r = afterSteps n a k in
     let h : r .steps < n = omega (arith, steps-few n a k) in
     advanced-cases n r (λ t. Permutation n (t .order))
     (λ e. s)
-    (λ p. exchanged n (r .order) (r .steps) (next-pivot n r) h8 h (pivot-best (r .rows) (r .steps) n h .high) s)
+    (λ p. exchanged n (r .order) (r .steps) (nextPivot n r) h8 h (pivot-best (r .working) (r .steps) n h .high) s)
 
 -- also where the elimination ends before its last step
 pub permutation : (n : ℕ) (a : List ℤ) → n ≤ mostTanks → Permutation n (eliminated n a .order)

@@ -1,10 +1,11 @@
--- What the elimination answers. Definitions only. Assumes nothing.
-use mathlib.Core.Path.{_≡_}
-use mathlib.Core.Bool.{cond}
-use mathlib.Core.List.{List}
-use Prim.Native.Nat.{ℕ}
+-- Definitions only.
+-- What the elimination answers.
+use Prim.Native.Nat.{ℕ, suc}
 use lib.Dec.{ltb}
 use lib.IntN.{ℤ}
+use mathlib.Core.Bool.{cond}
+use mathlib.Core.List.{List}
+use mathlib.Core.Path.{_≡_}
 use Rattle.elimination.specs.Steps.{eliminated}
 use Rattle.elimination.specs.declared.Elimination.{Elimination}
 use Rattle.elimination.specs.declared.Elimination.the-variants.{Complete, ZeroPivot}
@@ -18,8 +19,14 @@ abbrev pub refusal : Elimination → ℕ
 refusal Complete = 0
 refusal (ZeroPivot step) = 8
 
--- the answer, the rows and the order that an elimination leaves for n rows of coefficients
-pub record Eliminates (n : ℕ) (a : List ℤ) (answer : Elimination) (rows : List (List ℤ)) (order : List ℕ) : Type 0 where
-  pub answer-is : answer ≡ outcome n (eliminated n a .steps)
-  pub rows-are : rows ≡ eliminated n a .rows
-  pub order-is : order ≡ eliminated n a .order
+-- the step at which it is refused, counted from 1 as the paper does; 0 for none
+abbrev pub refusalStep : Elimination → ℕ
+refusalStep Complete = 0
+refusalStep (ZeroPivot step) = suc step
+
+-- the answer, by its refusal's number and step, the working matrix and the order that an elimination leaves for n rows of coefficients
+pub record Eliminates (n : ℕ) (A : List ℤ) (answer : Elimination) (working : List (List ℤ)) (order : List ℕ) : Type 0 where
+  pub refusal-is : refusal answer ≡ refusal (outcome n (eliminated n A .steps))
+  pub step-is : refusalStep answer ≡ refusalStep (outcome n (eliminated n A .steps))
+  pub working-is : working ≡ eliminated n A .working
+  pub order-is : order ≡ eliminated n A .order

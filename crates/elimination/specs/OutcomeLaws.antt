@@ -1,22 +1,34 @@
 -- When an elimination is complete, and when it is refused: exactly if at some step every candidate for the pivot is zero. Assumes nothing.
-use mathlib.Core.Path.{_≡_, refl, sym, ap, _∙_}
-use mathlib.Core.Bool.{Bool, true, false, cond}
-use mathlib.Core.List.{List}
 use Prim.Native.Nat.{ℕ, _<_, _≤_}
-use native.Mathlib.Nat.{le-antisymm}
-use native.Mathlib.Omega.{arith}
-use native.Mathlib.Decide.{decLt}
+use borrow.Author.Tests.{ltb-true, ltb-false, lt-ltb, le-ltb}
 use lib.Dec.{ltb}
 use lib.IntN.{ℤ, pos, natAbs}
-use borrow.Author.Tests.{ltb-true, ltb-false, lt-ltb, le-ltb}
+use mathlib.Core.Bool.{Bool, true, false, cond}
+use mathlib.Core.List.{List}
+use mathlib.Core.Path.{_≡_, refl, sym, ap, _∙_}
+use native.Mathlib.Decide.{decLt}
+use native.Mathlib.Omega.{arith}
 use Rattle.integers.specs.Size.{natAbs-zero}
-use Rattle.elimination.specs.Matrix.{at}
-use Rattle.elimination.specs.Steps.{Run, next-pivot, largest, after-steps, eliminated}
-use Rattle.elimination.specs.Outcome.{outcome, refusal}
 use Rattle.elimination.specs.Claims.{ZeroColumn}
+use Rattle.elimination.specs.Matrix.{at}
+use Rattle.elimination.specs.Outcome.{outcome, refusal, refusalStep, Eliminates}
 use Rattle.elimination.specs.Pivot.{pivot-best}
-use Rattle.elimination.specs.Runs.{steps-few, ended, stays, made}
+use Rattle.elimination.specs.Runs.{ended, stays, made}
+use Rattle.elimination.specs.Steps.{Run, nextPivot, largest, afterSteps, eliminated}
+use Rattle.elimination.specs.declared.Elimination.{Elimination}
 use Rattle.elimination.specs.declared.Elimination.the-variants.{Complete, ZeroPivot}
+
+-- ---- the refusal's number and step tell the answer
+
+same-elimination : (x y : Elimination) → refusal x ≡ refusal y → refusalStep x ≡ refusalStep y → x ≡ y
+same-elimination Complete Complete e f = refl
+same-elimination Complete (ZeroPivot k) e f = absurd (omega arith)
+same-elimination (ZeroPivot k) Complete e f = absurd (omega arith)
+same-elimination (ZeroPivot k) (ZeroPivot m) e f = let g : k ≡ m = omega arith in ap ZeroPivot g
+
+pub answer-is : {n : ℕ} {a : List ℤ} {answer : Elimination} {w : List (List ℤ)} {o : List ℕ}
+    → Eliminates n a answer w o → answer ≡ outcome n (eliminated n a .steps)
+answer-is h = same-elimination _ _ (h .refusal-is) (h .step-is)
 
 -- ---- the answer tells the number of steps
 
@@ -45,28 +57,16 @@ module _ (n s : ℕ) where
   unfolding outcome
   steps-zero-pivot h = rw (lt-ltb s n h)
 
--- ---- complete exactly if n steps were made
-
-pub steps-le : (n : ℕ) (a : List ℤ) → eliminated n a .steps ≤ n
-unfolding eliminated
-steps-le n a = steps-few n a n
-
-pub complete-all : (n : ℕ) (a : List ℤ) → outcome n (eliminated n a .steps) ≡ Complete → eliminated n a .steps ≡ n
-complete-all n a e = le-antisymm (steps-le n a) (complete-steps n (eliminated n a .steps) e)
-
-pub all-complete : (n : ℕ) (a : List ℤ) → eliminated n a .steps ≡ n → outcome n (eliminated n a .steps) ≡ Complete
-all-complete n a e = steps-complete n (eliminated n a .steps) (omega arith)
-
 -- ---- all candidates are zero exactly if the largest is
 
-pub zero-largest : (n : ℕ) (r : Run) → r .steps < n → ((i : ℕ) → r .steps ≤ i → i < n → at (r .rows) i (r .steps) ≡ pos 0) → largest n r ≡ 0
+pub zero-largest : (n : ℕ) (r : Run) → r .steps < n → ((i : ℕ) → r .steps ≤ i → i < n → at (r .working) i (r .steps) ≡ pos 0) → largest n r ≡ 0
 zero-largest n r h z =
-    let b = pivot-best (r .rows) (r .steps) n h in
-    ap natAbs (z (next-pivot n r) (b .low) (b .high))
+    let b = pivot-best (r .working) (r .steps) n h in
+    ap natAbs (z (nextPivot n r) (b .low) (b .high))
 
-pub largest-zero : (n : ℕ) (r : Run) → r .steps < n → largest n r ≡ 0 → (i : ℕ) → r .steps ≤ i → i < n → at (r .rows) i (r .steps) ≡ pos 0
+pub largest-zero : (n : ℕ) (r : Run) → r .steps < n → largest n r ≡ 0 → (i : ℕ) → r .steps ≤ i → i < n → at (r .working) i (r .steps) ≡ pos 0
 largest-zero n r h e i p q =
-    natAbs-zero (at (r .rows) i (r .steps)) (omega (arith, pivot-best (r .rows) (r .steps) n h .largest i p q))
+    natAbs-zero (at (r .working) i (r .steps)) (omega (arith, pivot-best (r .working) (r .steps) n h .largest i p q))
 
 -- ---- refused exactly at the step whose candidates are all zero
 
@@ -74,19 +74,19 @@ module _ (n : ℕ) (a : List ℤ) (k : ℕ) where
   pub zero-pivot-column : outcome n (eliminated n a .steps) ≡ ZeroPivot k → ZeroColumn n a k
   unfolding eliminated
   zero-pivot-column e =
-      let s = zero-pivot-steps n (after-steps n a n .steps) k e in
-      let m : after-steps n a k ≡ after-steps n a n = ap (after-steps n a) (s .1) ∙ made n a n in
+      let s = zero-pivot-steps n (afterSteps n a n .steps) k e in
+      let m : afterSteps n a k ≡ afterSteps n a n = ap (afterSteps n a) (s .1) ∙ made n a n in
       record {
         below = omega arith;
         reached = ap (λ (r : Run). r .steps) m ∙ sym (s .1);
-        zero = λ i p q. rw (m, s .1) (largest-zero n (after-steps n a n) (s .0) (ended n a n (s .0)) i (omega arith) q);
+        zero = λ i p q. rw (m, s .1) (largest-zero n (afterSteps n a n) (s .0) (ended n a n (s .0)) i (omega arith) q);
       }
 
   pub column-zero-pivot : ZeroColumn n a k → outcome n (eliminated n a .steps) ≡ ZeroPivot k
   unfolding eliminated
   column-zero-pivot c =
       let e = c .reached in
-      let z = zero-largest n (after-steps n a k) (omega (arith, c .below)) (λ i p q. rw e (c .zero i (omega arith) q)) in
+      let z = zero-largest n (afterSteps n a k) (omega (arith, c .below)) (λ i p q. rw e (c .zero i (omega arith) q)) in
       let m = stays n a k n (omega (arith, c .below)) z in
       rw (m, e) (steps-zero-pivot n k (c .below))
 

@@ -1,17 +1,17 @@
--- What `pivot-row` finds: the largest candidate, the uppermost of equals; and how a search goes, candidate by candidate. Assumes nothing.
-use mathlib.Core.Path.{_≡_, refl, sym, ap, subst}
+-- What `pivotRow` finds: the largest candidate, the uppermost of equals; and how a search goes, candidate by candidate. Assumes nothing.
+use Prim.Native.Nat.{ℕ, zero, suc, _+_, _-_, _<_, _≤_, suc-le-suc}
+use borrow.Author.Count.{below-more}
+use borrow.Author.Tests.{ltb-true, ltb-false, lt-ltb, le-ltb}
+use lib.Dec.{ltb}
+use lib.IntN.{ℤ, natAbs}
+use lib.ListN.{length}
 use mathlib.Core.Bool.{Bool, true, false, cond}
 use mathlib.Core.List.{List, [], _∷_}
-use Prim.Native.Nat.{ℕ, zero, suc, _+_, _-_, _<_, _≤_, suc-le-suc}
+use mathlib.Core.Path.{_≡_, refl, sym, ap, subst}
 use native.Mathlib.Nat.{add-zero, le-refl}
 use native.Mathlib.Omega.{arith}
-use borrow.Author.Count.{below-more}
-use lib.Dec.{ltb}
-use lib.ListN.{length}
-use lib.IntN.{ℤ, natAbs}
-use borrow.Author.Tests.{ltb-true, ltb-false, lt-ltb, le-ltb}
 use Rattle.elimination.specs.Matrix.{at}
-use Rattle.elimination.specs.Steps.{pivot-from, pivot-row}
+use Rattle.elimination.specs.Steps.{pivotFrom, pivotRow}
 
 -- the size of the candidate in row i
 abbrev size : List (List ℤ) → ℕ → ℕ → ℕ
@@ -20,25 +20,25 @@ size w k i = natAbs (at w i k)
 -- ---- a loop that looks through the candidates, one a turn
 
 pivot-more : (w : List (List ℤ)) (k b i n : ℕ) → i < n
-    → pivot-from w k (cond (ltb (size w k b) (size w k i)) i b) (i + 1) (n - (i + 1)) ≡ pivot-from w k b i (n - i)
-unfolding pivot-from
+    → pivotFrom w k (cond (ltb (size w k b) (size w k i)) i b) (i + 1) (n - (i + 1)) ≡ pivotFrom w k b i (n - i)
+unfolding pivotFrom
 pivot-more w k b i n h =
     let e : n - i ≡ suc (n - (i + 1)) = omega arith in
-    ap (λ (m : ℕ). pivot-from w k b i m) (sym e)
+    ap (λ (m : ℕ). pivotFrom w k b i m) (sym e)
 
 pub pivot-up : (w : List (List ℤ)) (k b i n : ℕ) → i < n → natAbs (at w b k) < natAbs (at w i k)
-    → pivot-from w k i (i + 1) (n - (i + 1)) ≡ pivot-from w k b i (n - i)
+    → pivotFrom w k i (i + 1) (n - (i + 1)) ≡ pivotFrom w k b i (n - i)
 pivot-up w k b i n h l = rw (lt-ltb (size w k b) (size w k i) l) at (pivot-more w k b i n h)
 
 pub pivot-stay : (w : List (List ℤ)) (k b i n : ℕ) → i < n → natAbs (at w i k) ≤ natAbs (at w b k)
-    → pivot-from w k b (i + 1) (n - (i + 1)) ≡ pivot-from w k b i (n - i)
+    → pivotFrom w k b (i + 1) (n - (i + 1)) ≡ pivotFrom w k b i (n - i)
 pivot-stay w k b i n h l = rw (le-ltb (size w k b) (size w k i) l) at (pivot-more w k b i n h)
 
-pub pivot-done : (w : List (List ℤ)) (k b i n : ℕ) → n ≤ i → pivot-from w k b i (n - i) ≡ b
-unfolding pivot-from
+pub pivot-done : (w : List (List ℤ)) (k b i n : ℕ) → n ≤ i → pivotFrom w k b i (n - i) ≡ b
+unfolding pivotFrom
 pivot-done w k b i n h =
     let e : n - i ≡ 0 = omega arith in
-    ap (λ (m : ℕ). pivot-from w k b i m) e
+    ap (λ (m : ℕ). pivotFrom w k b i m) e
 
 -- ---- what is found
 
@@ -73,20 +73,20 @@ module _ (w : List (List ℤ)) (k lo : ℕ) where
             first = h .first;
           }
 
-  from-best : (b i m : ℕ) → Best w k lo b i → Best w k lo (pivot-from w k b i m) (i + m)
-  unfolding pivot-from
+  from-best : (b i m : ℕ) → Best w k lo b i → Best w k lo (pivotFrom w k b i m) (i + m)
+  unfolding pivotFrom
   from-best b i zero h = rw (add-zero i) h
   from-best b i (suc m) h =
       let e : (i + 1) + m ≡ i + suc m = omega arith in
-      subst (λ (x : ℕ). Best w k lo (pivot-from w k b i (suc m)) x) e
+      subst (λ (x : ℕ). Best w k lo (pivotFrom w k b i (suc m)) x) e
       (from-best (cond (ltb (size w k b) (size w k i)) i b) (i + 1) m (more b i h))
 
 -- the row found is the best of k to below n
-pub pivot-best : (w : List (List ℤ)) (k n : ℕ) → k < n → Best w k k (pivot-row w k n) n
-unfolding pivot-row
+pub pivot-best : (w : List (List ℤ)) (k n : ℕ) → k < n → Best w k k (pivotRow w k n) n
+unfolding pivotRow
 pivot-best w k n h =
     let e : (k + 1) + (n - (k + 1)) ≡ n = omega arith in
-    subst (λ (x : ℕ). Best w k k (pivot-from w k k (k + 1) (n - (k + 1))) x) e
+    subst (λ (x : ℕ). Best w k k (pivotFrom w k k (k + 1) (n - (k + 1))) x) e
     (from-best w k k k (k + 1) (n - (k + 1))
     (record { low = omega arith; high = omega arith; largest = λ j p q. alone j p q; first = λ j p q. absurd (omega arith) }))
   where

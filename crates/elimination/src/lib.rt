@@ -1,19 +1,26 @@
 // Elimination with row exchanges on working numbers.
+ghost use Prim.Native.Nat.{_<_, _≤_};
+ghost use lib.IntN.{pos, _*ℤ_};
+ghost use mathlib.Core.List.{[]};
+ghost use mathlib.Core.Path.{_≡_};
+ghost use Rattle.limits.specs.Limits.{mostTanks};
+ghost use Rattle.rounding.specs.Round.{rnd};
+ghost use Rattle.rounding.specs.Scale.{multiplierScale};
+ghost use Rattle.elimination.specs.Conditions.{StartRow, StartRows, Dividing, RowEliminable, Pivoted};
+ghost use Rattle.elimination.specs.Outcome.{Eliminates};
+ghost use Rattle.elimination.specs.Steps.{workingRow, workingMatrix, exchange, eliminatedRow, eliminatedBelow};
+ghost use Rattle.elimination.specs.Steps.{zeroRow, zeroRows};
 use integers::magnitude;
 use limits::MOST_COEFFICIENTS;
 use limits::MOST_TANKS;
 use rounding::rounded_by_scale;
 use rounding::rounded_quotient;
-ghost use mathlib.Core.Path.{_≡_};
-ghost use mathlib.Core.List.{[]};
-ghost use Prim.Native.Nat.{_<_, _≤_};
-ghost use lib.IntN.{pos, _*ℤ_};
-ghost use Rattle.limits.specs.Limits.{mostTanks};
-ghost use Rattle.rounding.specs.Round.{rnd};
-ghost use Rattle.elimination.specs.Steps.{working-row, working, exchange, eliminated-row, eliminated-below};
-ghost use Rattle.elimination.specs.Conditions.{StartRow, StartRows, Dividing, Ready, Pivoted};
-ghost use Rattle.elimination.specs.Start.{zero-row, zero-rows};
-ghost use Rattle.elimination.specs.Outcome.{Eliminates};
+
+// The working numbers start at 256 × A.
+pub const WORKING_SCALE: i64 = 256;
+
+// The scale of the multipliers, as a factor of a working number.
+const MULTIPLIER_SCALE: i64 = rounding::MULTIPLIER_SCALE as i64;
 
 // Row i of the working numbers at the start, over a row of zeros.
 fn fill_row(
@@ -22,12 +29,12 @@ fn fill_row(
     i: usize,
     row: &mut [i64; MOST_TANKS],
 )
-    requires { ⌜ (n ≤ mostTanks) × (i < n) × (now row ≡ zero-row) ⌝ }
-    ensures { λ _. ⌜ StartRow (now (row .exit)) (working-row n (now (coefficients .entry)) i) ⌝ }
+    requires { ⌜ (n ≤ mostTanks) × (i < n) × (now row ≡ zeroRow) ⌝ }
+    ensures { λ _. ⌜ StartRow (now (row .exit)) (workingRow n (now (coefficients .entry)) i) ⌝ }
 {
     let mut j: usize = 0;
     while j < n {
-        row[j] = 256 * (coefficients[i * n + j] as i64);
+        row[j] = WORKING_SCALE * (coefficients[i * n + j] as i64);
         j += 1;
     }
 }
@@ -38,8 +45,8 @@ fn fill_rows(
     coefficients: &[i16; MOST_COEFFICIENTS],
     w: &mut [[i64; MOST_TANKS]; MOST_TANKS],
 )
-    requires { ⌜ (n ≤ mostTanks) × (now w ≡ zero-rows) ⌝ }
-    ensures { λ _. ⌜ StartRows (now (w .exit)) (working n (now (coefficients .entry))) ⌝ }
+    requires { ⌜ (n ≤ mostTanks) × (now w ≡ zeroRows) ⌝ }
+    ensures { λ _. ⌜ StartRows (now (w .exit)) (workingMatrix n (now (coefficients .entry))) ⌝ }
 {
     let mut i: usize = 0;
     while i < n {
@@ -73,15 +80,15 @@ fn exchange_places(order: &mut [usize; MOST_TANKS], i: usize, j: usize)
 // M = rnd(16,384 × entry / pivot), at most 16,384 since no entry below the pivot is larger.
 fn multiplier_of(entry: i64, pivot: i64) -> i64
     requires { ⌜ Dividing entry pivot ⌝ }
-    ensures { λ r. ⌜ r ≡ rnd (pos 16384 *ℤ entry) pivot ⌝ }
+    ensures { λ r. ⌜ r ≡ rnd (pos multiplierScale *ℤ entry) pivot ⌝ }
 {
-    rounded_quotient(16384 * entry, pivot)
+    rounded_quotient(MULTIPLIER_SCALE * entry, pivot)
 }
 
 // Column k eliminated in a row below the pivot's row `top`; the row's multiplier is kept there.
 fn eliminate_row(top: &[i64; MOST_TANKS], row: &mut [i64; MOST_TANKS], k: usize, n: usize)
-    requires { ⌜ Ready (now top) (now row) k n ⌝ }
-    ensures { λ _. ⌜ now (row .exit) ≡ eliminated-row (now (top .entry)) (now (row .entry)) k n ⌝ }
+    requires { ⌜ RowEliminable (now top) (now row) k n ⌝ }
+    ensures { λ _. ⌜ now (row .exit) ≡ eliminatedRow (now (top .entry)) (now (row .entry)) k n ⌝ }
 {
     let m = multiplier_of(row[k], top[k]);
     let mut j = k + 1;
@@ -100,7 +107,7 @@ fn step(
     n: usize,
 ) -> [[i64; MOST_TANKS]; MOST_TANKS]
     requires { ⌜ (pivot < mostTanks) × Pivoted (exchange [] w k pivot) k n ⌝ }
-    ensures { λ r. ⌜ r ≡ eliminated-below (exchange [] w k pivot) k n ⌝ }
+    ensures { λ r. ⌜ r ≡ eliminatedBelow (exchange [] w k pivot) k n ⌝ }
 {
     exchange_rows(&mut w, k, pivot);
     let top = w[k];
@@ -119,24 +126,24 @@ pub enum Elimination {
 }
 
 // All steps of the elimination of n rows of coefficients, which stand row after row, or those before the first whose candidates are all
-// zero. `rows` gets the working numbers, with each multiplier in the place that it eliminated, and `order` the index of the row that
+// zero. `working` gets the working matrix, with each multiplier in the place that it eliminated, and `order` the index of the row that
 // stands at each place. Both are written whole, whatever they held, after an early end too. Asks that there are at most 8 rows.
 pub fn eliminate(
     n: usize,
     coefficients: &[i16; MOST_COEFFICIENTS],
-    rows: &mut [[i64; MOST_TANKS]; MOST_TANKS],
+    working: &mut [[i64; MOST_TANKS]; MOST_TANKS],
     order: &mut [usize; MOST_TANKS],
 ) -> Elimination
     requires { ⌜ n ≤ mostTanks ⌝ }
-    ensures { λ r. ⌜ Eliminates n (now (coefficients .entry)) r (now (rows .exit)) (now (order .exit)) ⌝ }
+    ensures { λ r. ⌜ Eliminates n (now (coefficients .entry)) r (now (working .exit)) (now (order .exit)) ⌝ }
 {
-    *rows = [[0i64; MOST_TANKS]; MOST_TANKS];
-    fill_rows(n, coefficients, rows);
+    *working = [[0i64; MOST_TANKS]; MOST_TANKS];
+    fill_rows(n, coefficients, working);
     *order = [0, 1, 2, 3, 4, 5, 6, 7];
     let mut k: usize = 0;
     'steps: while k < n {
         let mut pivot = k;
-        let mut largest = magnitude(rows[k][k]);
+        let mut largest = magnitude(working[k][k]);
         let mut i = k + 1;
         'rows: loop {
             if i == n {
@@ -145,7 +152,7 @@ pub fn eliminate(
                 }
                 break 'rows;
             }
-            let size = magnitude(rows[i][k]);
+            let size = magnitude(working[i][k]);
             if largest < size {
                 pivot = i;
                 largest = size;
@@ -154,7 +161,7 @@ pub fn eliminate(
         }
         // the last step has no row below it and its pivot is its own row, so it changes nothing
         if k + 1 < n {
-            *rows = step(*rows, k, pivot, n);
+            *working = step(*working, k, pivot, n);
             exchange_places(order, k, pivot);
         }
         k += 1;

@@ -1,14 +1,15 @@
+-- Definitions only.
 -- A field of a file, and what refuses a field that is due at the front of the bytes that are left.
 use Prim.Native.Nat.{ℕ, _+_, _-_}
+use lib.Dec.{leb, eqb}
+use lib.ListN.{length, getD, take, drop}
 use mathlib.Core.Bool.{Bool}
 use mathlib.Core.List.{List, [], _∷_, _++_}
-use lib.ListN.{length, getD, take, drop}
-use lib.Dec.{leb, eqb}
 use mir.Syntax.{w16}
+use Rattle.outcome.specs.Outcome.{check, first}
 use Rattle.outcome.specs.declared.Refusal.the-variants.{FieldMissing, WrongTag, WrongLength, ValueCutShort}
 use Rattle.outcome.specs.declared.Status.{Status}
-use Rattle.outcome.specs.Outcome.{check, first}
-use Rattle.bigendian.specs.Number.{be, bytes, size}
+use Rattle.bigendian.specs.Number.{be, beBytes, size}
 
 -- document 01: "one byte tag, two bytes length, then the value"
 abbrev pub lengthAt : ℕ
@@ -18,7 +19,7 @@ abbrev pub lengthSize : ℕ
 lengthSize = size w16
 
 abbrev pub header : ℕ → ℕ → List ℕ
-header tag len = tag ∷ bytes lengthSize len
+header tag len = tag ∷ beBytes lengthSize len
 
 abbrev pub headerSize : ℕ
 headerSize = lengthAt + lengthSize

@@ -1,19 +1,20 @@
 -- The laws of a field: one that was written is whole, one that is whole is what a writer writes, and what the check of a field at a place tells.
 -- Assumes nothing.
-use mathlib.Core.Path.{_≡_, refl, sym, ap, _∙_}
-use mathlib.Core.List.{List, _++_, append-assoc}
 use Prim.Native.Nat.{ℕ, suc, _+_, _-_, _^_, _≤_, _<_}
-use native.Mathlib.Omega.{arith}
+use borrow.Author.Tests.{le-leb, leb-true, eq-eqb, eqb-true}
 use lib.ListN.{length, take, drop, length-append, length-drop, take-append-drop}
 use lib.Seq.{length-take-le, drop-drop, take-at, drop-at, drop-cons, sets, sets-eq}
-use borrow.Author.Tests.{le-leb, leb-true, eq-eqb, eqb-true}
-use Rattle.outcome.specs.declared.Status.{Status}
-use Rattle.outcome.specs.declared.Status.the-variants.{Accepted}
-use Rattle.outcome.specs.Laws.{check-accepted, first-left, first-right}
+use mathlib.Core.List.{List, _++_, append-assoc}
+use mathlib.Core.Path.{_≡_, refl, sym, ap, _∙_}
+use native.Mathlib.Omega.{arith}
 use Rattle.buffer.specs.Buffer.{onto}
 use Rattle.buffer.specs.Laws.{part, put}
 use Rattle.buffer.specs.WroteLaws.{onto-two}
-use Rattle.bigendian.specs.Number.{bytes, Bytes}
+use Rattle.outcome.specs.Laws.{same-status, check-accepted, first-left, first-right}
+use Rattle.outcome.specs.Outcome.{statusNumber}
+use Rattle.outcome.specs.declared.Status.{Status}
+use Rattle.outcome.specs.declared.Status.the-variants.{Accepted}
+use Rattle.bigendian.specs.Number.{beBytes, Bytes}
 use Rattle.bigendian.specs.NumberLaws.{be-bytes, length-bytes, bytes-of, bytes-drop}
 use Rattle.fields.specs.Field.{lengthAt, lengthSize, header, headerSize, field, tagOf, lengthOf, valueOf, afterField, fieldStatus}
 
@@ -37,7 +38,7 @@ field-written tag len v out x {y} l e f =
 -- the value stored byte by byte behind the header
 pub field-stored : (tag : ℕ) (v out l : List ℕ) → headerSize + length v ≤ length l → l ≡ onto (header tag (length v)) out
     → sets l headerSize v ≡ onto (field tag v) out
-unfolding field bytes
+unfolding field beBytes
 field-stored tag v out l h e =
     let k : headerSize + length v ≡ suc (suc (suc (length v))) = omega arith in
     let o = onto (header tag (length v)) out in
@@ -66,14 +67,14 @@ module _ (tag len : ℕ) (s : List ℕ) where
 
 module _ (tag : ℕ) (v r : List ℕ) where
   pub field-value : valueOf (field tag v ++ r) ≡ v ++ r
-  unfolding field bytes
+  unfolding field beBytes
   field-value = refl
 
   pub field-after : (len : ℕ) → length v ≡ len → afterField len (field tag v ++ r) ≡ r
   field-after len e = drop-at (field tag v) r (headerSize + len) (length-field tag v ∙ rw e)
 
   pub field-accepted : (len : ℕ) → length v ≡ len → len < 256 ^ lengthSize → fieldStatus tag len (field tag v ++ r) ≡ Accepted
-  unfolding field bytes
+  unfolding field beBytes
   field-accepted len e h =
       passes tag len (field tag v ++ r)
       (record {
@@ -94,7 +95,7 @@ module _ (tag len : ℕ) (s : List ℕ) (accepted : fieldStatus tag len s ≡ Ac
   field-is bs =
       let w = whole tag len s accepted in
       let d : lengthSize ≤ length (drop lengthAt s) = simp length-drop (omega arith) in
-      let b : bytes lengthSize len ≡ take lengthSize (drop lengthAt s) = rw (← (w .length-is)) (bytes-of lengthSize (drop lengthAt s) (bytes-drop lengthAt bs) d) in
+      let b : beBytes lengthSize len ≡ take lengthSize (drop lengthAt s) = rw (← (w .length-is)) (bytes-of lengthSize (drop lengthAt s) (bytes-drop lengthAt bs) d) in
       rw (
         length-take-le len (valueOf s) value-room,
         b,
@@ -120,9 +121,9 @@ pub record Checked (tag len : ℕ) (s : List ℕ) (at place : ℕ) (x : Status) 
   pub room : x ≡ Accepted → at + (headerSize + len) ≤ length s
   pub value : drop (place + headerSize) s ≡ valueOf (drop at s)
 
-pub checked : (tag len : ℕ) (s : List ℕ) (at : ℕ) {place l : ℕ} {x : Status} → place ≡ at → l ≡ len → x ≡ fieldStatus tag l (drop place s) → Checked tag len s at place x
-checked tag len s at p q e =
-    let w = rw (p, q) at e in
+pub checked : (tag len : ℕ) (s : List ℕ) (at : ℕ) {place l : ℕ} {x : Status} → place ≡ at → l ≡ len → statusNumber x ≡ statusNumber (fieldStatus tag l (drop place s)) → Checked tag len s at place x
+checked tag len s at {x = x} p q e =
+    let w = same-status x (fieldStatus tag len (drop at s)) (rw (p, q) at e) in
     record {
       is = w;
       room = λ g. omega (arith, length-drop at s, whole tag len (drop at s) (sym w ∙ g));

@@ -1,8 +1,9 @@
 // Fields of a file: one byte tag, two bytes length, then the value.
-ghost use mathlib.Core.Path.{_≡_};
 ghost use Prim.Native.Nat.{_≤_};
 ghost use lib.ListN.{length, drop};
+ghost use mathlib.Core.Path.{_≡_};
 ghost use Rattle.buffer.specs.Buffer.{onto};
+ghost use Rattle.outcome.specs.Outcome.{statusNumber};
 ghost use Rattle.fields.specs.Field.{header, headerSize, endSize, endField, fieldStatus};
 use outcome::Refusal;
 use outcome::Status;
@@ -21,7 +22,7 @@ pub const END_SIZE: usize = HEADER_SIZE + END_LENGTH;
 
 // Whether the field that starts at a place of s has this tag, this length and its whole value: the first of refusals 2 to 5, or none.
 pub fn check_field(s: &[u8], at: usize, tag: u8, len: usize) -> Status
-    ensures { λ r. ⌜ r ≡ fieldStatus tag len (drop at (now (s .entry))) ⌝ }
+    ensures { λ r. ⌜ statusNumber r ≡ statusNumber (fieldStatus tag len (drop at (now (s .entry)))) ⌝ }
 {
     if s.len() < at {
         return Status::Refused(Refusal::FieldMissing);
@@ -40,12 +41,12 @@ pub fn check_field(s: &[u8], at: usize, tag: u8, len: usize) -> Status
 }
 
 // The header of a field, over the front of out.
-pub fn write_header(out: &mut [u8], tag: u8, len: u16)
+pub fn write_header(tag: u8, len: u16, out: &mut [u8])
     requires { ⌜ headerSize ≤ length (now out) ⌝ }
     ensures { λ _. ⌜ now (out .exit) ≡ onto (header tag len) (now (out .entry)) ⌝ }
 {
     out[0] = tag;
-    bigendian::write_u16(&mut out[LENGTH_AT..], len);
+    bigendian::write_u16(len, &mut out[LENGTH_AT..]);
 }
 
 // The end field, over the front of out.
@@ -53,5 +54,5 @@ pub fn write_end(out: &mut [u8])
     requires { ⌜ endSize ≤ length (now out) ⌝ }
     ensures { λ _. ⌜ now (out .exit) ≡ onto endField (now (out .entry)) ⌝ }
 {
-    write_header(out, END_TAG, END_LENGTH as u16);
+    write_header(END_TAG, END_LENGTH as u16, out);
 }

@@ -1,26 +1,27 @@
 -- The laws of figures as bytes and of runs of them, once for every kind: read back what was written, write back what was read.
 -- Assumes nothing.
-use mathlib.Core.Path.{_≡_, refl, ap, _∙_}
-use mathlib.Core.List.{List, _∷_, _++_}
-use mathlib.Core.Bool.{Bool, true}
 use Prim.Native.Nat.{ℕ, suc, _*_, _^_, _≤_, _<_}
-use native.Mathlib.Omega.{arith}
-use native.Mathlib.Nat.{mul-suc, mul-comm}
+use borrow.Author.Tests.{leb-true}
+use lib.IntN.{ℤ}
 use lib.ListN.{length, take, drop, length-drop, take-append-drop}
 use lib.Seq.{take-at, drop-at}
-use lib.IntN.{ℤ}
+use mathlib.Core.Bool.{Bool, true}
+use mathlib.Core.List.{List, _∷_, _++_}
+use mathlib.Core.Path.{_≡_, refl, ap, _∙_}
+use mir.Facts.{toZ-ofZ, ofZ-toZ, fits-ofZ}
 use mir.Syntax.{Width}
 use mir.Val.{hbits, SFits}
-use mir.Facts.{toZ-ofZ, ofZ-toZ, fits-ofZ}
+use native.Mathlib.Nat.{mul-suc, mul-comm}
+use native.Mathlib.Omega.{arith}
 use store.Enc.{two-256}
-use borrow.Author.Tests.{leb-true}
+use Rattle.buffer.specs.AllLaws.{and-true}
+use Rattle.buffer.specs.Buffer.{all}
+use Rattle.buffer.specs.FrontLaws.{ReadsFirst, reads-take}
 use Rattle.integers.specs.Size.{sfits-leb}
 use Rattle.bigendian.specs.Number.{be, size, Bytes}
 use Rattle.bigendian.specs.NumberLaws.{bytes-drop, bytes-of, be-of, be-bytes, length-bytes}
-use Rattle.buffer.specs.Buffer.{all}
-use Rattle.buffer.specs.AllLaws.{and-true}
-use Rattle.figures.specs.Figures.{Kind, unsigned, signed, upTo, within, figureAt, figures, after, figureBytes, spread}
-use Rattle.figures.specs.ItemLaws.{length-joined, Back, items-back, items-same}
+use Rattle.figures.specs.Figures.{Kind, unsignedKind, signedKind, upToLimit, withinLimit, figureAt, figures, after, figureBytes, spread, RunRead}
+use Rattle.figures.specs.ItemLaws.{length-joined, Back, items-back, items-same, reads-items}
 
 -- ---- a kind holds the figures that pass a test
 
@@ -29,7 +30,7 @@ pub record Lawful {X : Type 0} (k : Kind X) (f : X → Bool) : Type 0 where
   pub fits : (x : X) → f x ≡ true → k .number x < 256 ^ k .width
   pub same : (b : ℕ) → b < 256 ^ k .width → k .number (k .figure b) ≡ b
 
-pub unsigned-lawful : (w : Width) (limit : ℕ) → limit < 256 ^ size w → Lawful (unsigned w) (upTo limit)
+pub unsigned-lawful : (w : Width) (limit : ℕ) → limit < 256 ^ size w → Lawful (unsignedKind w) (upToLimit limit)
 unsigned-lawful w limit h =
     record {
       back = λ x e. refl;
@@ -37,7 +38,7 @@ unsigned-lawful w limit h =
       same = λ b g. refl;
     }
 
-pub signed-lawful : (w : Width) (limit : ℕ) → limit < 2 ^ hbits w → Lawful (signed w) (within limit)
+pub signed-lawful : (w : Width) (limit : ℕ) → limit < 2 ^ hbits w → Lawful (signedKind w) (withinLimit limit)
 signed-lawful w limit h =
     record {
       back = λ z e. toZ-ofZ (sfits-leb limit h z e);
@@ -93,5 +94,17 @@ module _ {X : Type 0} (k : Kind X) where
             )
 
 -- a signed figure that fits its width
-pub signed-back : (w : Width) (z : ℤ) → SFits w z → (r : List ℕ) → figureAt (signed w) (figureBytes (signed w) z ++ r) ≡ z
-signed-back w z f r = figure-back (signed w) z (rw (← (two-256 w)) (fits-ofZ {w = w} f .fits)) (toZ-ofZ f) r
+pub signed-back : (w : Width) (z : ℤ) → SFits w z → (r : List ℕ) → figureAt (signedKind w) (figureBytes (signedKind w) z ++ r) ≡ z
+signed-back w z f r = figure-back (signedKind w) z (rw (← (two-256 w)) (fits-ofZ {w = w} f .fits)) (toZ-ofZ f) r
+
+-- a run of figures that was read at a place, where the bytes from the place on are v
+pub run-at : {X : Type 0} (k : Kind X) (f : X → Bool) {u v : List ℕ} {m n : ℕ} {exit : List X} {r : Bool} → u ≡ v → m ≡ n
+    → RunRead f (figures k m u) r exit → RunRead f (figures k n v) r exit
+run-at k f e g h = rw (e, g) at h
+
+-- a run of figures looks no further than its own bytes
+pub reads-figures : {X : Type 0} (k : Kind X) (n : ℕ) → ReadsFirst (k .width * n) (figures k n)
+reads-figures k n = rw (mul-comm (k .width) n) (reads-items (k .width) (figureAt k) one n)
+  where
+    one : ReadsFirst (k .width) (figureAt k)
+    one = record { same = λ f h. ap (λ v. k .figure (be v)) (reads-take (k .width) .same f h) }

@@ -1,15 +1,16 @@
+-- Definitions only.
 -- Kinds of figures, and runs of figures of one kind as bytes.
 use Prim.Native.Nat.{ℕ, zero, suc, _*_}
+use lib.Dec.{leb}
+use lib.IntN.{ℤ, natAbs}
+use lib.ListN.{length, take, drop}
 use mathlib.Core.Bool.{Bool}
 use mathlib.Core.List.{List, [], _∷_}
 use mathlib.Core.Path.{_≡_}
-use lib.ListN.{length, take, drop}
-use lib.IntN.{ℤ, natAbs}
-use lib.Dec.{leb}
 use mir.Syntax.{Width, w16, w32, w64}
 use mir.Val.{toZ, ofZ}
-use Rattle.bigendian.specs.Number.{be, bytes, size}
 use Rattle.buffer.specs.Buffer.{joined, all}
+use Rattle.bigendian.specs.Number.{be, beBytes, size}
 
 -- how many bytes a figure has, the figure of a number so written, and the number of a figure
 pub record Kind (X : Type 0) : Type 0 where
@@ -17,45 +18,45 @@ pub record Kind (X : Type 0) : Type 0 where
   pub figure : ℕ → X
   pub number : X → ℕ
 
-abbrev pub unsigned : Width → Kind ℕ
-unsigned w = record { width = size w; figure = λ x. x; number = λ x. x }
+abbrev pub unsignedKind : Width → Kind ℕ
+unsignedKind w = record { width = size w; figure = λ x. x; number = λ x. x }
 
 -- document 01: "signed ones in two's complement"
-abbrev pub signed : Width → Kind ℤ
-signed w = record { width = size w; figure = toZ w; number = ofZ w }
+abbrev pub signedKind : Width → Kind ℤ
+signedKind w = record { width = size w; figure = toZ w; number = ofZ w }
 
 -- named as the code's types
-abbrev pub u16 : Kind ℕ
-u16 = unsigned w16
+abbrev pub u16Kind : Kind ℕ
+u16Kind = unsignedKind w16
 
-abbrev pub u32 : Kind ℕ
-u32 = unsigned w32
+abbrev pub u32Kind : Kind ℕ
+u32Kind = unsignedKind w32
 
-abbrev pub u64 : Kind ℕ
-u64 = unsigned w64
+abbrev pub u64Kind : Kind ℕ
+u64Kind = unsignedKind w64
 
-abbrev pub i16 : Kind ℤ
-i16 = signed w16
+abbrev pub i16Kind : Kind ℤ
+i16Kind = signedKind w16
 
-abbrev pub i32 : Kind ℤ
-i32 = signed w32
+abbrev pub i32Kind : Kind ℤ
+i32Kind = signedKind w32
 
-abbrev pub i64 : Kind ℤ
-i64 = signed w64
+abbrev pub i64Kind : Kind ℤ
+i64Kind = signedKind w64
 
 -- limits: from 0 to the limit, and from minus the limit to the limit
-abbrev pub upTo : ℕ → ℕ → Bool
-upTo limit x = leb x limit
+abbrev pub upToLimit : ℕ → ℕ → Bool
+upToLimit limit x = leb x limit
 
-abbrev pub within : ℕ → ℤ → Bool
-within limit z = upTo limit (natAbs z)
+abbrev pub withinLimit : ℕ → ℤ → Bool
+withinLimit limit z = upToLimit limit (natAbs z)
 
 -- of every figure of a list
-abbrev pub allUpTo : ℕ → List ℕ → Bool
-allUpTo limit l = all (upTo limit) l
+abbrev pub allUpToLimit : ℕ → List ℕ → Bool
+allUpToLimit limit l = all (upToLimit limit) l
 
-abbrev pub allWithin : ℕ → List ℤ → Bool
-allWithin limit l = all (within limit) l
+abbrev pub allWithinLimit : ℕ → List ℤ → Bool
+allWithinLimit limit l = all (withinLimit limit) l
 
 -- n items of a width, one after another from the front of v
 unfoldable pub items : {A : Type 0} → ℕ → (List ℕ → A) → ℕ → List ℕ → List A
@@ -76,15 +77,10 @@ module _ {X : Type 0} where
 
   -- the bytes of a figure, and of a run of figures
   abbrev pub figureBytes : Kind X → X → List ℕ
-  figureBytes k x = bytes (k .width) (k .number x)
+  figureBytes k x = beBytes (k .width) (k .number x)
 
   unfoldable pub spread : Kind X → List X → List ℕ
   spread k xs = joined (figureBytes k) xs
-
--- an answer that is due and, where it is yes, what was made
-pub record Answered {S A : Type 0} (yes due : S) (value : A) (r : S) (out : A) : Type 0 where
-  pub status : r ≡ due
-  pub made : r ≡ yes → out ≡ value
 
 -- what is answered of a run of figures: whether all pass the test, and the figures in out, whether they do or not
 pub record RunRead {X : Type 0} (f : X → Bool) (l : List X) (r : Bool) (out : List X) : Type 0 where

@@ -1,13 +1,14 @@
 -- Items of one width, one after another: how long they are, what was written is read back, what was read is written back. Once for every kind
 -- of item: `Ok` is what is known of the items that are left, and tells of the first one what the law needs and the same of the others. Assumes nothing.
-use mathlib.Core.Path.{_≡_, refl, sym, ap, _∙_}
-use mathlib.Core.List.{List, [], _∷_, _++_, append-assoc}
 use Prim.Native.Nat.{ℕ, zero, suc, _+_, _*_}
-use native.Mathlib.Omega.{arith}
-use native.Mathlib.Nat.{zero-mul, suc-mul}
 use lib.ListN.{length, drop, length-append}
 use lib.Seq.{drop-at, drop-drop}
+use mathlib.Core.List.{List, [], _∷_, _++_, append-assoc}
+use mathlib.Core.Path.{_≡_, refl, sym, ap, _∙_}
+use native.Mathlib.Nat.{zero-mul, suc-mul}
+use native.Mathlib.Omega.{arith}
 use Rattle.buffer.specs.Buffer.{joined}
+use Rattle.buffer.specs.FrontLaws.{ReadsFirst, reads-behind}
 use Rattle.figures.specs.Figures.{items}
 
 module _ {A : Type 0} (w : ℕ) (item : List ℕ → A) where
@@ -47,3 +48,10 @@ module _ {A : Type 0} (w : ℕ) (item : List ℕ → A) where
         let k : suc n * w ≡ w + n * w = omega (arith, suc-mul n w) in
         append-assoc (write (item s)) (joined write (items w item n (drop w s))) (drop (suc n * w) s)
         ∙ rw (k, ← (drop-drop (n * w) w s), items-same Ok next n (drop w s) (t .1)) (t .0)
+
+-- items look no further than their own bytes
+pub reads-items : {A : Type 0} (w : ℕ) (item : List ℕ → A) → ReadsFirst w item → (n : ℕ) → ReadsFirst (n * w) (items w item n)
+unfolding items
+reads-items w item r zero = record { same = λ f h. refl }
+reads-items w item r (suc n) =
+    record { same = λ f h. let k = suc-mul n w in rw (r .same f (omega arith), reads-behind w (reads-items w item r n) .same f (omega arith)) }

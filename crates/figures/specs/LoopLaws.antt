@@ -1,29 +1,29 @@
 -- The loops over a run of figures, once for every kind: reading with a test, testing, writing; and, behind the first, reading items of one width, figures
 -- or rows: what is left, read on from here, gives the whole.
 -- Assumes nothing.
-use mathlib.Core.Path.{_≡_, refl, sym, _∙_}
-use mathlib.Core.List.{List, [], _∷_, _++_, append-nil}
-use mathlib.Core.Bool.{Bool, true, _&&_, and-true}
 use Prim.Native.Nat.{ℕ, suc, _+_, _*_, _-_, _^_, _≤_, _<_}
-use native.Mathlib.Omega.{arith}
-use native.Mathlib.Nat.{mul-suc, sub-zero}
-use native.Mathlib.Numerals.{add-one}
+use lib.Dec.{T, leb}
+use lib.IntN.{ℤ, natAbs}
 use lib.ListN.{length, getD, take, drop, set, length-set}
 use lib.Seq.{drop-drop, take-suc, take-suc-set, append-snoc, take-all}
 use lib.Signed.{mag}
-use lib.Dec.{T, leb}
-use lib.IntN.{ℤ, natAbs}
+use mathlib.Core.Bool.{Bool, true, _&&_, and-true}
+use mathlib.Core.List.{List, [], _∷_, _++_, append-nil}
+use mathlib.Core.Path.{_≡_, refl, sym, _∙_}
 use mir.Syntax.{Width, w64}
 use mir.Val.{hbits, toZ, ofZ}
-use Rattle.integers.specs.Signed.{wide-is}
-use Rattle.buffer.specs.Buffer.{onto, run, all}
+use native.Mathlib.Nat.{mul-suc, sub-zero}
+use native.Mathlib.Numerals.{add-one}
+use native.Mathlib.Omega.{arith}
 use Rattle.buffer.specs.AllLaws.{all-both}
+use Rattle.buffer.specs.Buffer.{onto, run, all}
 use Rattle.buffer.specs.RunLaws.{joined-run, Running, run-joined}
-use Rattle.figures.specs.Figures.{Kind, upTo, within, items, figureAt, figureBytes, spread, Read}
+use Rattle.integers.specs.Signed.{wide-is}
+use Rattle.figures.specs.Figures.{Kind, upToLimit, withinLimit, items, figureAt, figureBytes, spread, Read}
 
 -- the test of a signed figure of a width, whose size was found in 64 bits
 pub tested : (w : Width) → T (leb (hbits w) (hbits w64)) → (z : ℤ) → mag z < 2 ^ hbits w → (limit : ℕ) {m : ℕ}
-    → m ≡ natAbs (toZ w64 (ofZ w64 (toZ w (ofZ w z)))) → upTo limit m ≡ within limit z
+    → m ≡ natAbs (toZ w64 (ofZ w64 (toZ w (ofZ w z)))) → upToLimit limit m ≡ withinLimit limit z
 tested w narrow z h limit e = rw (e, wide-is w narrow z (record { sfits = h }))
 
 -- a test of one element more

@@ -1,43 +1,43 @@
 -- Laws of the order of fractions: it is total and transitive, agrees with the cross products of proper fractions, and goes by whole quotients and
 -- then by the remainders turned over. Assumes nothing.
-use mathlib.Core.Path.{_≡_, refl, sym, ap, ap₂, _∙_}
-use mathlib.Core.Logic.{_⊎_, inl, inr, _↔_}
 use Prim.Native.Nat.{ℕ, zero, suc, _+_, _*_, _/_, _%_, _<_, _≤_, compare·zero-zero, compare·zero-suc, compare·suc-zero, compare·suc-suc}
-use native.Mathlib.Nat.{zero-add, suc-add, le-of-suc-le-suc, div-add-mod', mod-lt, mul-le-mul-right, le-of-mul-le-mul-left, mul-pos}
+use mathlib.Core.Logic.{_⊎_, inl, inr, _↔_}
+use mathlib.Core.Path.{_≡_, refl, sym, ap, ap₂, _∙_}
 use native.Mathlib.Decide.{decLt, decLe}
+use native.Mathlib.Nat.{zero-add, suc-add, le-of-suc-le-suc, div-add-mod', mod-lt, mul-le-mul-right, le-of-mul-le-mul-left, mul-pos}
 use native.Mathlib.Omega.{arith}
+use Rattle.fractions.specs.Fraction.{_over_, Fraction, orderedDenominator, base, _≼_, _≺_, orderNamed, orderOfNumbers, order}
 use Rattle.fractions.specs.declared.Order.the-variants.{Less, Equal, Greater}
-use Rattle.fractions.specs.Fraction.{_over_, Fraction, below, base, _≼_, _≺_, named, ordered, order}
 
 -- ---- the order of two naturals
 
-ordered-lt : (x y : ℕ) → x < y → ordered x y ≡ Less
-unfolding ordered
+ordered-lt : (x y : ℕ) → x < y → orderOfNumbers x y ≡ Less
+unfolding orderOfNumbers
 ordered-lt zero zero h = absurd (omega arith)
-ordered-lt zero (suc y) h = ap named (compare·zero-suc y)
+ordered-lt zero (suc y) h = ap orderNamed (compare·zero-suc y)
 ordered-lt (suc x) zero h = absurd (omega arith)
-ordered-lt (suc x) (suc y) h = ap named (compare·suc-suc x y) ∙ ordered-lt x y (le-of-suc-le-suc h)
+ordered-lt (suc x) (suc y) h = ap orderNamed (compare·suc-suc x y) ∙ ordered-lt x y (le-of-suc-le-suc h)
 
-ordered-same : (n : ℕ) → ordered n n ≡ Equal
-unfolding ordered
-ordered-same zero = ap named compare·zero-zero
-ordered-same (suc n) = ap named (compare·suc-suc n n) ∙ ordered-same n
+ordered-same : (n : ℕ) → orderOfNumbers n n ≡ Equal
+unfolding orderOfNumbers
+ordered-same zero = ap orderNamed compare·zero-zero
+ordered-same (suc n) = ap orderNamed (compare·suc-suc n n) ∙ ordered-same n
 
-ordered-eq : (x y : ℕ) → x ≡ y → ordered x y ≡ Equal
-ordered-eq x y e = ap (λ (n : ℕ). ordered x n) (sym e) ∙ ordered-same x
+ordered-eq : (x y : ℕ) → x ≡ y → orderOfNumbers x y ≡ Equal
+ordered-eq x y e = ap (λ (n : ℕ). orderOfNumbers x n) (sym e) ∙ ordered-same x
 
-ordered-gt : (x y : ℕ) → y < x → ordered x y ≡ Greater
-unfolding ordered
+ordered-gt : (x y : ℕ) → y < x → orderOfNumbers x y ≡ Greater
+unfolding orderOfNumbers
 ordered-gt zero zero h = absurd (omega arith)
 ordered-gt zero (suc y) h = absurd (omega arith)
-ordered-gt (suc x) zero h = ap named (compare·suc-zero x)
-ordered-gt (suc x) (suc y) h = ap named (compare·suc-suc x y) ∙ ordered-gt x y (le-of-suc-le-suc h)
+ordered-gt (suc x) zero h = ap orderNamed (compare·suc-zero x)
+ordered-gt (suc x) (suc y) h = ap orderNamed (compare·suc-suc x y) ∙ ordered-gt x y (le-of-suc-le-suc h)
 
-ordered-shift : (k x y : ℕ) → ordered (k + x) (k + y) ≡ ordered x y
-unfolding ordered
-ordered-shift zero x y = ap₂ ordered (zero-add x) (zero-add y)
+ordered-shift : (k x y : ℕ) → orderOfNumbers (k + x) (k + y) ≡ orderOfNumbers x y
+unfolding orderOfNumbers
+ordered-shift zero x y = ap₂ orderOfNumbers (zero-add x) (zero-add y)
 ordered-shift (suc k) x y =
-    ap₂ ordered (suc-add k x) (suc-add k y) ∙ ap named (compare·suc-suc (k + x) (k + y)) ∙ ordered-shift k x y
+    ap₂ orderOfNumbers (suc-add k x) (suc-add k y) ∙ ap orderNamed (compare·suc-suc (k + x) (k + y)) ∙ ordered-shift k x y
 
 -- ---- the three outcomes, each from its cross products and back
 
@@ -75,27 +75,27 @@ pub ≼-refl : (f : Fraction) → f ≼ f
 
 -- ---- a fraction whose denominator reads as 0 has a numerator
 
-numerator : (a b : ℕ) → below a b ≡ 0 → 0 < a
+numerator : (a b : ℕ) → orderedDenominator a b ≡ 0 → 0 < a
 numerator zero zero e = absurd (omega arith)
 numerator zero (suc b) e = absurd (omega arith)
 numerator (suc a) b e = omega arith
 
-pub numerator-base : (a b : ℕ) → 0 < a → below a b ≡ b
+pub numerator-base : (a b : ℕ) → 0 < a → orderedDenominator a b ≡ b
 numerator-base zero b h = absurd (omega arith)
 numerator-base (suc a) b h = refl
 
-pub proper-base : (a b : ℕ) → 0 < b → below a b ≡ b
+pub proper-base : (a b : ℕ) → 0 < b → orderedDenominator a b ≡ b
 proper-base a zero h = absurd (omega arith)
 proper-base zero (suc b) h = refl
 proper-base (suc a) (suc b) h = refl
 
 -- against u / v, whose denominator is not read anew: v a ≤ u b, from and to the order
-pub cross-from-base : (a b u v : ℕ) → a * v ≤ u * below a b → v * a ≤ u * b
+pub cross-from-base : (a b u v : ℕ) → a * v ≤ u * orderedDenominator a b → v * a ≤ u * b
 cross-from-base zero zero u v h = omega arith
 cross-from-base zero (suc b) u v h = omega arith
 cross-from-base (suc a) b u v h = omega arith
 
-pub cross-to-base : (a b u v : ℕ) → v * a ≤ u * b → a * v ≤ u * below a b
+pub cross-to-base : (a b u v : ℕ) → v * a ≤ u * b → a * v ≤ u * orderedDenominator a b
 cross-to-base zero zero u v h = omega arith
 cross-to-base zero (suc b) u v h = omega arith
 cross-to-base (suc a) b u v h = omega arith
@@ -121,12 +121,6 @@ module _ (f g h : Fraction) where
 
 -- what is not at most is above, so the strict order goes along
 module _ (f g h : Fraction) where
-  pub ≺-≼-trans : f ≺ g → g ≼ h → f ≺ h
-  ≺-≼-trans p q = go (≼-total h f)
-    where
-      go : (h ≼ f) ⊎ (f ≺ h) → f ≺ h
-      go (inl k) = absurd (omega (arith, ≼-trans g h f q k))
-      go (inr k) = k
 
   pub ≼-≺-trans : f ≼ g → g ≺ h → f ≺ h
   ≼-≺-trans p q = go (≼-total h f)
@@ -158,7 +152,7 @@ module _ (a b c d : ℕ) (hb : 0 < b) (hd : 0 < d) where
   unfolding order
   by-remainder e =
       rw (proper-base a b hb, proper-base c d hd, numerator-base d (c % d) hd, numerator-base b (a % b) hb)
-      (ap₂ ordered left right ∙ ordered-shift ((a / b) * (b * d)) (d * (a % b)) (b * (c % d)))
+      (ap₂ orderOfNumbers left right ∙ ordered-shift ((a / b) * (b * d)) (d * (a % b)) (b * (c % d)))
     where
       left : a * d ≡ (a / b) * (b * d) + d * (a % b)
       left = let q = ap (λ (n : ℕ). n * d) (div-add-mod' a b) in omega arith

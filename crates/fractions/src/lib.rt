@@ -1,8 +1,8 @@
 // The order of two fractions, with no product formed.
-ghost use mathlib.Core.Path.{_≡_};
 ghost use mathlib.Core.Logic.{_⊎_};
+ghost use mathlib.Core.Path.{_≡_};
 ghost use Rattle.fractions.specs.Fraction.{_over_, order};
-ghost use Rattle.fractions.specs.Greatest.{is-greater};
+ghost use Rattle.fractions.specs.Greatest.{isGreater};
 
 pub enum Order {
     Less,
@@ -54,7 +54,7 @@ pub fn compare(a: u64, b: u64, c: u64, d: u64) -> Order
 
 // Whether a / b is greater than c / d. Where neither numerator nor denominator speaks against it, no division is needed.
 pub fn exceeds(a: u64, b: u64, c: u64, d: u64) -> bool
-    ensures { λ r. ⌜ r ≡ is-greater (order (a over b) (c over d)) ⌝ }
+    ensures { λ r. ⌜ r ≡ isGreater (order (a over b) (c over d)) ⌝ }
 {
     if a <= c {
         if d <= b {

@@ -1,10 +1,11 @@
 pub mod Diff
 pub mod Ring
 pub mod Order
+pub mod Sign
 pub mod Size
-pub mod Poly
 pub mod Sums
+pub mod SumLaws
 pub mod Tables
+pub mod TableLaws
 pub mod Code
 pub mod Signed
-pub mod Recipes

@@ -1,18 +1,18 @@
 -- The bits of a signed number, once for every width: by its sign, by the half of the width that they stand in, and where a number of one width
 -- is worked on in 64 bits. Assumes nothing.
-use mathlib.Core.Path.{_≡_, refl, ap, _∙_}
-use mathlib.Core.Bool.{Bool, true, false}
 use Prim.Native.Nat.{ℕ, suc, _+_, _*_, _-_, _/_, _^_, _≤_, _<_}
-use native.Mathlib.Omega.{arith}
+use borrow.Author.Tests.{ltb-true}
+use lib.Dec.{T, leb, lit≤}
 use lib.IntN.{ℤ, pos, negsuc}
 use lib.Signed.{ltZ, mag}
-use lib.Dec.{T, leb, lit≤}
-use native.Mathlib.Nat.{one-le-pow}
+use mathlib.Core.Bool.{Bool, true, false}
+use mathlib.Core.Path.{_≡_, refl, ap, _∙_}
+use mir.Facts.{toZ-pos, toZ-neg, toZ-ofZ, sfits-toZ, sfits-widen}
 use mir.Syntax.{Width, w64}
 use mir.Val.{Fits, SFits, toZ, ofZ, bits, hbits}
 use mir.ValLaws.{pow-bits}
-use mir.Facts.{toZ-pos, toZ-neg, toZ-ofZ, sfits-toZ, sfits-widen}
-use borrow.Author.Tests.{ltb-true}
+use native.Mathlib.Nat.{one-le-pow}
+use native.Mathlib.Omega.{arith}
 
 -- a natural cast to a signed width that holds it
 pub toZ-fits : (w : Width) (m : ℕ) → SFits w (pos m) → toZ w m ≡ pos m

@@ -3,21 +3,22 @@
 -- By `omega`, from bounds in reach: `omega (arith, fits, natAbs-+ℤ x y)`.
 -- By computing a bound, from a bound of each variable: `let X = at-most x 1000 hx in let Y = at-most y 9 hy in sfits-by (search bounds) tt`.
 -- Assumes nothing.
-use mathlib.Core.Path.{_≡_, refl, sym, ap}
 use Prim.Native.Nat.{ℕ, zero, suc, _+_, _*_, _^_, _≤_, _<_}
-use native.Mathlib.Nat.{mul-le-mul, mul-le-mul-right, le-trans, lt-of-le-of-lt}
-use native.Mathlib.Omega.{arith}
+use borrow.Author.Tests.{leb-true}
 use lib.Dec.{T, leb, ltb, ltb→lt, leb→le}
 use lib.IntN.{ℤ, pos, negsuc, negℤ, natAbs, _+ℤ_, _-ℤ_, _*ℤ_, *ℤ-zero}
 use lib.Pow.{pow-pos}
-use lib.Signed.{mag, _≤ℤ_}
-use mir.Syntax.{Width}
+use lib.Signed.{mag}
 use mathlib.Core.Bool.{true}
-use borrow.Author.Tests.{leb-true}
+use mathlib.Core.Path.{_≡_, refl, sym, ap}
+use mir.Syntax.{Width}
 use mir.Val.{hbits, SFits}
+use native.Mathlib.Nat.{mul-le-mul, mul-le-mul-right, le-trans, lt-of-le-of-lt}
+use native.Mathlib.Omega.{arith}
 use Rattle.integers.specs.Diff.{one-side, abs-parts, size-parts, add-parts, neg-parts, sub-parts}
 use Rattle.integers.specs.Order.{ints}
 use Rattle.integers.specs.Ring.{negℤ-*ℤ-negℤ}
+use Rattle.integers.specs.Sign.{turned}
 
 -- ---- the laws
 
@@ -39,41 +40,14 @@ natAbs-+ℤ x y =
 pub natAbs-subℤ : (x y : ℤ) → natAbs (x -ℤ y) ≤ natAbs x + natAbs y
 natAbs-subℤ x y = omega (arith, natAbs-+ℤ x (negℤ y), natAbs-negℤ y)
 
--- the size of a sum is at least the difference of the sizes
-pub natAbs-+ℤ-low : (x y : ℤ) → natAbs x ≤ natAbs (x +ℤ y) + natAbs y
-natAbs-+ℤ-low x y =
-    omega (arith, add-parts x y, one-side x, abs-parts (x +ℤ y), abs-parts x, abs-parts y)
-
 pub natAbs-zero : (x : ℤ) → natAbs x ≡ 0 → x ≡ pos 0
 natAbs-zero x h = omega (arith, ints, abs-parts x)
 
 -- ---- and the order
 
-pub natAbs-between : (x : ℤ) (n : ℕ) → natAbs x ≤ n → (negℤ (pos n) ≤ℤ x) × (x ≤ℤ pos n)
-natAbs-between x n h =
-    (omega (arith, ints, neg-parts (pos n), abs-parts x), omega (arith, ints, abs-parts x))
-
-pub natAbs-of-between : (x : ℤ) (n : ℕ) → negℤ (pos n) ≤ℤ x → x ≤ℤ pos n → natAbs x ≤ n
-natAbs-of-between x n h k = omega (arith, ints, neg-parts (pos n), abs-parts x, one-side x)
-
-pub ≤ℤ-natAbs : (x : ℤ) → x ≤ℤ pos (natAbs x)
-≤ℤ-natAbs x = natAbs-between x (natAbs x) (omega arith) .1
-
--- what is not negative is its size
-pub natAbs-0≤ : (x : ℤ) → pos 0 ≤ℤ x → pos (natAbs x) ≡ x
-natAbs-0≤ x h = omega (arith, ints, abs-parts x, one-side x)
-
 -- a size within a multiple of 0
 pub natAbs-within-zero : (x : ℤ) (t u v : ℕ) → 0 < v → v * natAbs x ≤ u * t → t ≡ 0 → x ≡ pos 0
 natAbs-within-zero x t u v p h e = natAbs-zero x (omega (arith, mul-le-mul-right (natAbs x) p, ap (λ n. u * n) e))
-
--- ---- the sign of one number on another
-
--- x with its sign turned where y is below zero, and 0 where y is 0
-abbrev pub turned : ℤ → ℤ → ℤ
-turned (pos zero) x = pos 0
-turned (pos (suc y)) x = x
-turned (negsuc y) x = negℤ x
 
 pub turned-size : (y x : ℤ) → natAbs (turned y x) ≤ natAbs x
 turned-size (pos zero) x = omega arith

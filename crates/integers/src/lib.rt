@@ -1,7 +1,7 @@
 // Laws of whole numbers, in specs/, and in code the absolute value and the powers of ten that an exponent of a case asks.
-ghost use mathlib.Core.Path.{_≡_};
 ghost use Prim.Native.Nat.{_^_, _<_};
 ghost use lib.IntN.{natAbs};
+ghost use mathlib.Core.Path.{_≡_};
 
 // The absolute value of any number, the least one too.
 pub fn magnitude(x: i64) -> u64

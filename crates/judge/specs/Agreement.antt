@@ -1,15 +1,15 @@
 -- The judgement says what it is, and looks at the answer's n figures only: an answer that agrees in those is judged alike. Assumes nothing.
-use mathlib.Core.Path.{_≡_, refl, ap, ap₂, _∙_}
 use Prim.Native.Nat.{ℕ, suc, _*_, _+_, _<_, _≤_}
 use lib.Dec.{eqb}
 use lib.IntN.{ℤ, pos, natAbs, _-ℤ_, _*ℤ_}
+use mathlib.Core.Path.{_≡_, refl, ap, ap₂, _∙_}
 use Rattle.limits.specs.Limits.{mostTanks}
-use Rattle.integers.specs.Sums.{sum-cong, total-cong}
-use Rattle.fractions.specs.Greatest.{first-greatest-cong}
-use Rattle.judge.specs.System.{Row, Trial, System, row, residual, reach}
-use Rattle.judge.specs.Judgement.{within, factor, no-factor, first-unmet, deciding, judgement}
-use Rattle.judge.specs.Laws.{first-not-cong, deciding-below, deciding-is, at-residuals, at-reaches}
+use Rattle.integers.specs.SumLaws.{sum-cong, total-cong}
+use Rattle.fractions.specs.GreatestLaws.{first-greatest-cong}
 use Rattle.judge.specs.Finding.{Finding, finding, Agrees}
+use Rattle.judge.specs.Judgement.{rowMet, factor, noFactor, firstUnmet, deciding, judgement}
+use Rattle.judge.specs.Laws.{first-not-cong, deciding-below, deciding-is, at-residuals, at-reaches}
+use Rattle.judge.specs.System.{Row, Trial, System, row, residual, reach}
 
 pub judgement-agrees : (s : System) (t : Trial) → 0 < s .n → s .n ≤ mostTanks → Agrees s t (finding (judgement s t))
 unfolding judgement
@@ -18,44 +18,44 @@ judgement-agrees s t h k =
     record {
       met = refl;
       unmet = refl;
-      none = rw (deciding-is s t k) (ap₂ no-factor (at-residuals s t k (deciding s t) d) (at-reaches s t k (deciding s t) d));
+      none = rw (deciding-is s t k) (ap₂ noFactor (at-residuals s t k (deciding s t) d) (at-reaches s t k (deciding s t) d));
       decides = ap suc (deciding-is s t k);
       R = at-residuals s t k;
       T = at-reaches s t k;
     }
 
 module _ (t : Trial) (Y : ℕ → ℤ) (same : (j : ℕ) → j < t .n → t .Y j ≡ Y j) where
-  abbrev pub with-figures : Trial
-  with-figures = record { n = t .n; D = t .D; Y = Y }
+  abbrev pub withFigures : Trial
+  withFigures = record { n = t .n; D = t .D; Y = Y }
 
-  same-residual : (r : Row) → residual r t ≡ residual r with-figures
+  same-residual : (r : Row) → residual r t ≡ residual r withFigures
   unfolding residual
   same-residual r =
       ap (λ x. pos (t .D) *ℤ r .b -ℤ x) (sum-cong (t .n) (λ j. r .A j *ℤ t .Y j) (λ j. r .A j *ℤ Y j) (λ j l. ap (λ y. r .A j *ℤ y) (same j l)))
 
-  same-reach : (r : Row) → reach r t ≡ reach r with-figures
+  same-reach : (r : Row) → reach r t ≡ reach r withFigures
   unfolding reach
   same-reach r =
       ap (λ x. t .D * r .f + x) (total-cong (t .n) (λ j. r .E j * natAbs (t .Y j)) (λ j. r .E j * natAbs (Y j)) (λ j l. ap (λ y. r .E j * natAbs y) (same j l)))
 
   module _ (s : System) where
-    same-unmet : first-unmet s t ≡ first-unmet s with-figures
-    unfolding first-unmet
-    same-unmet = first-not-cong _ _ (s .n) (λ i l. ap₂ within (same-residual (row s i)) (same-reach (row s i)))
+    same-unmet : firstUnmet s t ≡ firstUnmet s withFigures
+    unfolding firstUnmet
+    same-unmet = first-not-cong _ _ (s .n) (λ i l. ap₂ rowMet (same-residual (row s i)) (same-reach (row s i)))
 
-    same-deciding : deciding s t ≡ deciding s with-figures
+    same-deciding : deciding s t ≡ deciding s withFigures
     unfolding deciding
     same-deciding = first-greatest-cong _ _ (s .n) (λ i l. ap₂ factor (same-residual (row s i)) (same-reach (row s i)))
 
-    pub agrees-with : (w : Finding) → Agrees s t w → Agrees s with-figures w
+    pub agrees-with : (w : Finding) → Agrees s t w → Agrees s withFigures w
     agrees-with w a =
         record {
           met = a .met ∙ ap (λ u. eqb u 0) same-unmet;
           unmet = a .unmet ∙ same-unmet;
           none =
               a .none
-              ∙ ap₂ no-factor (same-residual (row s (deciding s t))) (same-reach (row s (deciding s t)))
-              ∙ ap (λ d. no-factor (residual (row s d) with-figures) (reach (row s d) with-figures)) same-deciding;
+              ∙ ap₂ noFactor (same-residual (row s (deciding s t))) (same-reach (row s (deciding s t)))
+              ∙ ap (λ d. noFactor (residual (row s d) withFigures) (reach (row s d) withFigures)) same-deciding;
           decides = a .decides ∙ ap suc same-deciding;
           R = λ i l. a .R i l ∙ same-residual (row s i);
           T = λ i l. a .T i l ∙ same-reach (row s i);

@@ -1,39 +1,39 @@
 -- Laws of the judgement's parts: the first place at which a test fails, and the whole from its parts. Assumes nothing.
-use mathlib.Core.Path.{_≡_, refl, ap, ap₂, _∙_}
-use mathlib.Core.Bool.{Bool, true, false, cond}
 use Prim.Native.Nat.{ℕ, zero, suc, _+_, _<_, _≤_}
+use lib.Dec.{eqb}
+use lib.IntN.{ℤ, pos}
+use lib.ListN.{getD}
+use mathlib.Core.Bool.{Bool, true, false, cond}
+use mathlib.Core.List.{List, []}
+use mathlib.Core.Path.{_≡_, refl, ap, ap₂, _∙_}
 use native.Mathlib.Decide.{ℕ-discrete}
 use native.Mathlib.Numerals.{add-one}
 use native.Mathlib.Omega.{arith}
-use lib.Dec.{eqb}
-use lib.ListN.{getD}
-use lib.IntN.{ℤ, pos}
-use mathlib.Core.List.{List, []}
 use Rattle.limits.specs.Limits.{mostTanks}
-use Rattle.integers.specs.Tables.{getD-filled}
-use Rattle.fractions.specs.Greatest.{first-greatest-cong, first-greatest-below}
-use Rattle.judge.specs.declared.Standing.{Standing}
+use Rattle.integers.specs.TableLaws.{getD-filled}
+use Rattle.fractions.specs.GreatestLaws.{first-greatest-cong, first-greatest-below}
+use Rattle.judge.specs.Judgement.{rowMet, factor, noFactor, orElse, firstNot, firstUnmet, deciding, residualVector, reachVector, judgement, measurement, decidingPlace, concluded}
 use Rattle.judge.specs.System.{System, Trial, system, row, residual, reach}
-use Rattle.judge.specs.Judgement.{within, factor, no-factor, or-else, first-not, first-unmet, deciding, residuals, reaches, judgement, standing, deciding-place, concluded}
+use Rattle.judge.specs.declared.Measurement.{Measurement}
 
 module _ (p : ℕ → Bool) where
   -- ---- a loop's turn
 
-  pub first-not-more : (k : ℕ) → first-not p k ≡ 0 → p k ≡ true → first-not p (k + 1) ≡ 0
-  unfolding first-not
+  pub first-not-more : (k : ℕ) → firstNot p k ≡ 0 → p k ≡ true → firstNot p (k + 1) ≡ 0
+  unfolding firstNot
   first-not-more k e h = rw (add-one k, e, h)
 
-  pub first-not-here : (k : ℕ) → first-not p k ≡ 0 → p k ≡ false → first-not p (k + 1) ≡ k + 1
-  unfolding first-not
+  pub first-not-here : (k : ℕ) → firstNot p k ≡ 0 → p k ≡ false → firstNot p (k + 1) ≡ k + 1
+  unfolding firstNot
   first-not-here k e h = rw (add-one k, e, h)
 
   -- what was found stays
-  pub first-not-stays : (k n m : ℕ) → k ≤ n → first-not p k ≡ suc m → first-not p n ≡ suc m
-  unfolding first-not
+  pub first-not-stays : (k n m : ℕ) → k ≤ n → firstNot p k ≡ suc m → firstNot p n ≡ suc m
+  unfolding firstNot
   first-not-stays k zero m l e = let z : k ≡ 0 = omega arith in rw z at e
   first-not-stays k (suc n) m l e = go (ℕ-discrete k (suc n)) (λ h. first-not-stays k n m h e)
     where
-      go : Dec (k ≡ suc n) → (k ≤ n → first-not p n ≡ suc m) → first-not p (suc n) ≡ suc m
+      go : Dec (k ≡ suc n) → (k ≤ n → firstNot p n ≡ suc m) → firstNot p (suc n) ≡ suc m
       go (yes q) r = rw q at e
       go (no q) r = rw (r (omega arith))
 
@@ -52,7 +52,7 @@ module _ (p : ℕ → Bool) where
   Found n zero = Holds n
   Found n (suc m) = Fails n m
 
-  found-more : (n f : ℕ) → Found n f → (b : Bool) → p n ≡ b → Found (suc n) (or-else f (cond b 0 (suc n)))
+  found-more : (n f : ℕ) → Found n f → (b : Bool) → p n ≡ b → Found (suc n) (orElse f (cond b 0 (suc n)))
   found-more n zero h true e = record { all = λ i l. at i l (ℕ-discrete i n) }
     where
       at : (i : ℕ) → i < suc n → Dec (i ≡ n) → p i ≡ true
@@ -61,30 +61,30 @@ module _ (p : ℕ → Bool) where
   found-more n zero h false e = record { place = omega arith; here = e; before = h .all }
   found-more n (suc m) h b e = record { place = omega (arith, h .place); here = h .here; before = h .before }
 
-  found : (n : ℕ) → Found n (first-not p n)
-  unfolding first-not
+  found : (n : ℕ) → Found n (firstNot p n)
+  unfolding firstNot
   found zero = record { all = λ i l. absurd (omega arith) }
-  found (suc n) = found-more n (first-not p n) (found n) (p n) refl
+  found (suc n) = found-more n (firstNot p n) (found n) (p n) refl
 
-  pub first-not-zero : (n : ℕ) → first-not p n ≡ 0 → Holds n
+  pub first-not-zero : (n : ℕ) → firstNot p n ≡ 0 → Holds n
   first-not-zero n e = rw e at (found n)
 
-  pub first-not-suc : (n m : ℕ) → first-not p n ≡ suc m → Fails n m
+  pub first-not-suc : (n m : ℕ) → firstNot p n ≡ suc m → Fails n m
   first-not-suc n m e = rw e at (found n)
 
-pub first-not-cong : (p q : ℕ → Bool) (n : ℕ) → ((i : ℕ) → i < n → p i ≡ q i) → first-not p n ≡ first-not q n
-unfolding first-not
+pub first-not-cong : (p q : ℕ → Bool) (n : ℕ) → ((i : ℕ) → i < n → p i ≡ q i) → firstNot p n ≡ firstNot q n
+unfolding firstNot
 first-not-cong p q zero h = refl
 first-not-cong p q (suc n) h =
-    ap₂ or-else (first-not-cong p q n (λ i l. h i (omega arith))) (ap (λ b. cond b 0 (suc n)) (h n (omega arith)))
+    ap₂ orElse (first-not-cong p q n (λ i l. h i (omega arith))) (ap (λ b. cond b 0 (suc n)) (h n (omega arith)))
 
 -- ---- where the rows stand that are named
 
-pub unmet-le : (s : System) (t : Trial) → first-unmet s t ≤ s .n
-unfolding first-unmet
-unmet-le s t = go (first-unmet s t) refl
+pub unmet-le : (s : System) (t : Trial) → firstUnmet s t ≤ s .n
+unfolding firstUnmet
+unmet-le s t = go (firstUnmet s t) refl
   where
-    go : (m : ℕ) → first-unmet s t ≡ m → m ≤ s .n
+    go : (m : ℕ) → firstUnmet s t ≡ m → m ≤ s .n
     go zero e = omega arith
     go (suc m) e = first-not-suc _ (s .n) m e .place
 
@@ -95,47 +95,47 @@ deciding-below s t h = first-greatest-below _ (s .n) (s .n) (omega arith) h
 -- ---- the whole, from its parts
 
 module _ (s : System) (t : Trial) (h : s .n ≤ mostTanks) where
-  pub at-residuals : (i : ℕ) → i < s .n → getD (residuals s t) i (pos 0) ≡ residual (row s i) t
+  pub at-residuals : (i : ℕ) → i < s .n → getD (residualVector s t) i (pos 0) ≡ residual (row s i) t
   at-residuals i l = getD-filled (pos 0) (λ i. residual (row s i) t) mostTanks (s .n) i l (omega arith)
 
-  pub at-reaches : (i : ℕ) → i < s .n → getD (reaches s t) i 0 ≡ reach (row s i) t
+  pub at-reaches : (i : ℕ) → i < s .n → getD (reachVector s t) i 0 ≡ reach (row s i) t
   at-reaches i l = getD-filled 0 (λ i. reach (row s i) t) mostTanks (s .n) i l (omega arith)
 
-  unmet-is : first-not (λ i. within (getD (residuals s t) i (pos 0)) (getD (reaches s t) i 0)) (s .n) ≡ first-unmet s t
-  unfolding first-unmet
-  unmet-is = first-not-cong _ _ (s .n) (λ i l. ap₂ within (at-residuals i l) (at-reaches i l))
+  unmet-is : firstNot (λ i. rowMet (getD (residualVector s t) i (pos 0)) (getD (reachVector s t) i 0)) (s .n) ≡ firstUnmet s t
+  unfolding firstUnmet
+  unmet-is = first-not-cong _ _ (s .n) (λ i l. ap₂ rowMet (at-residuals i l) (at-reaches i l))
 
   -- the standing, from residuals and reaches in eight places
-  pub measured : (u : ℕ) (R : List ℤ) (T : List ℕ) → R ≡ residuals s t → T ≡ reaches s t
-      → u ≡ first-not (λ i. within (getD R i (pos 0)) (getD T i 0)) (s .n)
-      → record { unmet = u; residuals = R; reaches = T } ≡ standing s t
-  measured u R T eR eT eu = let u′ : u ≡ first-unmet s t = (rw (eR, eT) at eu) ∙ unmet-is in rw (eR, eT, u′)
+  pub measurement-by-parts : (u : ℕ) (R : List ℤ) (T : List ℕ) → R ≡ residualVector s t → T ≡ reachVector s t
+      → u ≡ firstNot (λ i. rowMet (getD R i (pos 0)) (getD T i 0)) (s .n)
+      → record { unmet = u; residuals = R; reaches = T } ≡ measurement s t
+  measurement-by-parts u R T eR eT eu = let u′ : u ≡ firstUnmet s t = (rw (eR, eT) at eu) ∙ unmet-is in rw (eR, eT, u′)
 
   -- the row that decides in the judgement is the one that the rows themselves say
-  pub deciding-is : deciding-place (s .n) (standing s t) ≡ deciding s t
-  unfolding deciding-place deciding
+  pub deciding-is : decidingPlace (s .n) (measurement s t) ≡ deciding s t
+  unfolding decidingPlace deciding
   deciding-is = first-greatest-cong _ _ (s .n) (λ i l. ap₂ factor (at-residuals i l) (at-reaches i l))
 
 -- the judgement is concluded from the standing
-pub judgement-concluded : (s : System) (t : Trial) → concluded (s .n) (standing s t) ≡ judgement s t
+pub judgement-concluded : (s : System) (t : Trial) → concluded (s .n) (measurement s t) ≡ judgement s t
 unfolding judgement
 judgement-concluded s t = refl
 
 -- the standing, from residuals and reaches that were formed each from its own part of the system
 pub measured-by-parts : (n : ℕ) (A : List ℤ) (E : List ℕ) (b : List ℤ) (f : List ℕ) (t : Trial) → n ≤ mostTanks → (u : ℕ) (R : List ℤ) (T : List ℕ)
-    → R ≡ residuals (system n A [] b []) t → T ≡ reaches (system n [] E [] f) t → u ≡ first-not (λ i. within (getD R i (pos 0)) (getD T i 0)) n
-    → record { unmet = u; residuals = R; reaches = T } ≡ standing (system n A E b f) t
+    → R ≡ residualVector (system n A [] b []) t → T ≡ reachVector (system n [] E [] f) t → u ≡ firstNot (λ i. rowMet (getD R i (pos 0)) (getD T i 0)) n
+    → record { unmet = u; residuals = R; reaches = T } ≡ measurement (system n A E b f) t
 unfolding residual reach
-measured-by-parts n A E b f t h u R T eR eT eu = measured (system n A E b f) t h u R T eR eT eu
+measured-by-parts n A E b f t h u R T eR eT eu = measurement-by-parts (system n A E b f) t h u R T eR eT eu
 
 -- what is concluded, from the place that decides
-pub conclusion : (n : ℕ) (p : Standing) (at : ℕ) (none : Bool) → at ≡ deciding-place n p
-    → none ≡ no-factor (getD (p .residuals) at (pos 0)) (getD (p .reaches) at 0)
+pub conclusion : (n : ℕ) (p : Measurement) (at : ℕ) (none : Bool) → at ≡ decidingPlace n p
+    → none ≡ noFactor (getD (p .residuals) at (pos 0)) (getD (p .reaches) at 0)
     → record { met = eqb (p .unmet) 0; unmet = p .unmet; none = none; decides = at + 1; residuals = p .residuals; reaches = p .reaches } ≡ concluded n p
 unfolding concluded
-conclusion n p at none ea en = rw (en, ea, add-one (deciding-place n p))
+conclusion n p at none ea en = rw (en, ea, add-one (decidingPlace n p))
 
 -- a trial is met exactly if no row of its standing is unmet
-pub met-is : (s : System) (t : Trial) → judgement s t .met ≡ eqb (standing s t .unmet) 0
+pub met-is : (s : System) (t : Trial) → judgement s t .met ≡ eqb (measurement s t .unmet) 0
 unfolding judgement
 met-is s t = refl

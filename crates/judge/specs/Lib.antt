@@ -1,5 +1,5 @@
 pub mod System
-pub mod Changes
+pub mod Perturbation
 pub mod Judgement
 pub mod Laws
 pub mod ZeroTrial
@@ -9,3 +9,4 @@ pub mod Finding
 pub mod Agreement
 pub mod Theorem
 pub mod Places
+pub mod SameFigures

@@ -1,20 +1,21 @@
 -- How large residuals and reaches can be, by the sizes of the figures: |R| ≤ D b + n (a y), T ≤ D f + n (e y). Assumes nothing.
 use Prim.Native.Nat.{ℕ, _+_, _*_, _≤_}
+use lib.IntN.{ℤ, pos, natAbs, _*ℤ_}
+use lib.ListN.{getD}
 use native.Mathlib.Nat.{mul-le-mul, mul-le-mul-left}
 use native.Mathlib.Omega.{arith}
-use lib.ListN.{getD}
-use lib.IntN.{ℤ, pos, natAbs, _*ℤ_}
 use Rattle.limits.specs.Limits.{mostTanks}
 use Rattle.integers.specs.Size.{natAbs-*ℤ, natAbs-subℤ, product-ok}
-use Rattle.integers.specs.Sums.{sum, sum-bound, total-bound}
-use Rattle.integers.specs.Tables.{all-filled}
+use Rattle.integers.specs.SumLaws.{sum-bound, total-bound}
+use Rattle.integers.specs.Sums.{sum}
+use Rattle.integers.specs.TableLaws.{all-filled}
+use Rattle.judge.specs.Judgement.{measurement}
 use Rattle.judge.specs.System.{System, Trial, row, residual, reach}
-use Rattle.judge.specs.Judgement.{standing}
 
 -- coefficients of at most a, right-hand sides of at most b, figures of at most y
 module _ (s : System) (t : Trial) (a b y : ℕ)
-    (coefficients : (j : ℕ) → natAbs (getD (s .rows .coefficients) j (pos 0)) ≤ a)
-    (right-sides : (j : ℕ) → natAbs (getD (s .rows .right-sides) j (pos 0)) ≤ b)
+    (coefficients : (j : ℕ) → natAbs (getD (s .rows .A) j (pos 0)) ≤ a)
+    (right-sides : (j : ℕ) → natAbs (getD (s .rows .b) j (pos 0)) ≤ b)
     (figures : (j : ℕ) → natAbs (t .Y j) ≤ y) where
   pub residual-size : (i : ℕ) → natAbs (residual (row s i) t) ≤ t .D * b + t .n * (a * y)
   unfolding residual
@@ -28,14 +29,14 @@ module _ (s : System) (t : Trial) (a b y : ℕ)
       )
 
   -- the same of every residual that a standing holds
-  pub standing-size : (i : ℕ) → natAbs (getD (standing s t .residuals) i (pos 0)) ≤ t .D * b + t .n * (a * y)
-  standing-size =
+  pub measurement-size : (i : ℕ) → natAbs (getD (measurement s t .residuals) i (pos 0)) ≤ t .D * b + t .n * (a * y)
+  measurement-size =
       all-filled (λ (z : ℤ). natAbs z ≤ t .D * b + t .n * (a * y)) (pos 0) (omega arith) mostTanks (s .n) (λ i. residual (row s i) t) (λ i l. residual-size i)
 
 -- tolerances of at most e, of right-hand sides of at most f, figures of at most y
 pub reach-size : (s : System) (t : Trial) (e f y : ℕ)
-    → ((j : ℕ) → getD (s .rows .tolerances) j 0 ≤ e)
-    → ((j : ℕ) → getD (s .rows .right-tolerances) j 0 ≤ f)
+    → ((j : ℕ) → getD (s .rows .E) j 0 ≤ e)
+    → ((j : ℕ) → getD (s .rows .f) j 0 ≤ f)
     → ((j : ℕ) → natAbs (t .Y j) ≤ y)
     → (i : ℕ) → reach (row s i) t ≤ t .D * f + t .n * (e * y)
 unfolding reach

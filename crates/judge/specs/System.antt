@@ -1,9 +1,10 @@
+-- Definitions only.
 -- A system of linear equations with tolerances, a trial answer, and what the trial leaves of each row: the quantities of Theorem 7.3 of
--- document 001, in whole numbers. Definitions only. Assumes nothing.
-use mathlib.Core.List.{List}
+-- document 001, in whole numbers.
 use Prim.Native.Nat.{ℕ, _+_, _*_}
-use lib.ListN.{getD, replicate}
 use lib.IntN.{ℤ, pos, natAbs, _-ℤ_, _*ℤ_}
+use lib.ListN.{getD, replicate}
+use mathlib.Core.List.{List}
 use Rattle.limits.specs.Limits.{mostTanks}
 use Rattle.rows.specs.Block.{Block, block}
 use Rattle.integers.specs.Sums.{sum, total}
@@ -41,10 +42,10 @@ system n A E b f = record { n = n; rows = block A E b f }
 abbrev pub row : System → ℕ → Row
 row s i =
     record {
-      A = λ j. getD (s .rows .coefficients) (i * s .n + j) (pos 0);
-      E = λ j. getD (s .rows .tolerances) (i * s .n + j) 0;
-      b = getD (s .rows .right-sides) i (pos 0);
-      f = getD (s .rows .right-tolerances) i 0;
+      A = λ j. getD (s .rows .A) (i * s .n + j) (pos 0);
+      E = λ j. getD (s .rows .E) (i * s .n + j) 0;
+      b = getD (s .rows .b) i (pos 0);
+      f = getD (s .rows .f) i 0;
     }
 
 -- the figures Y of a list, over n tanks and the scale D
@@ -52,5 +53,5 @@ abbrev pub trial : ℕ → ℕ → List ℤ → Trial
 trial n D Y = record { n = n; D = D; Y = λ j. getD Y j (pos 0) }
 
 -- the trial whose figures are all zero
-abbrev pub zero-trial : ℕ → ℕ → Trial
-zero-trial n D = trial n D (replicate mostTanks (pos 0))
+abbrev pub zeroTrial : ℕ → ℕ → Trial
+zeroTrial n D = trial n D (replicate mostTanks (pos 0))

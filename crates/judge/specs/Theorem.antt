@@ -1,24 +1,25 @@
 -- Every finding that agrees with the judgement is justified, for a trial brought and a trial worked out alike. Assumes nothing.
-use mathlib.Core.Path.{_≡_, refl, sym, ap, _∙_}
-use mathlib.Core.Bool.{Bool, true, false, not, _&&_}
 use Prim.Native.Nat.{ℕ, zero, suc, _*_, _-_, _<_}
-use native.Mathlib.Nat.{mul-le-mul-right}
-use native.Mathlib.Omega.{arith}
 use borrow.Author.Tests.{leb-true, leb-false, eqb-true, eqb-false, ne-eqb}
 use lib.Dec.{eqb}
 use lib.IntN.{ℤ, natAbs}
-use Rattle.fractions.specs.Fraction.{below}
+use mathlib.Core.Bool.{Bool, true, false, not, _&&_}
+use mathlib.Core.Path.{_≡_, refl, sym, ap, _∙_}
+use native.Mathlib.Nat.{mul-le-mul-right}
+use native.Mathlib.Omega.{arith}
+use Rattle.fractions.specs.Fraction.{orderedDenominator}
+use Rattle.fractions.specs.Greatest.{First}
+use Rattle.fractions.specs.GreatestLaws.{first-greatest-is}
 use Rattle.fractions.specs.Laws.{cross-from-base, cross-to-base}
-use Rattle.fractions.specs.Greatest.{First, first-greatest-is}
-use Rattle.judge.specs.System.{System, Trial, row, residual, reach}
-use Rattle.judge.specs.Changes.{Possible}
-use Rattle.judge.specs.Judgement.{within, factor, no-factor, first-unmet, deciding}
+use Rattle.judge.specs.Perturbation.{Possible}
+use Rattle.judge.specs.Finding.{Finding, factorNumerator, AllPossible, AllUnder, FirstImpossible, Least, Yields, Justified, Agrees}
+use Rattle.judge.specs.Judgement.{rowMet, factor, noFactor, firstUnmet, deciding}
 use Rattle.judge.specs.Laws.{Fails, first-not-zero, first-not-suc}
 use Rattle.judge.specs.OettliPrager.{oettli-prager, within-tolerances, yielded-keep}
-use Rattle.judge.specs.Finding.{Finding, factor-num, AllPossible, AllUnder, FirstImpossible, Least, Yields, Justified, Agrees}
+use Rattle.judge.specs.System.{System, Trial, row, residual, reach}
 
 -- a fraction with a factor is proper; one without has a numerator over 0
-proper : (a b : ℕ) → eqb b 0 && not (eqb a 0) ≡ false → 0 < below a b
+proper : (a b : ℕ) → eqb b 0 && not (eqb a 0) ≡ false → 0 < orderedDenominator a b
 proper zero zero e = omega arith
 proper zero (suc b) e = omega arith
 proper (suc a) zero e =
@@ -45,26 +46,26 @@ module _ (s : System) (t : Trial) where
   abbrev T : ℕ → ℕ
   T i = reach (row s i) t
 
-  possible : (i : ℕ) → within (R i) (T i) ≡ true → Possible (row s i) t
+  possible : (i : ℕ) → rowMet (R i) (T i) ≡ true → Possible (row s i) t
   possible i e = within-tolerances (row s i) t .1 (leb-true (natAbs (R i)) (T i) e)
 
-  impossible : (i : ℕ) → within (R i) (T i) ≡ false → ¬ Possible (row s i) t
+  impossible : (i : ℕ) → rowMet (R i) (T i) ≡ false → ¬ Possible (row s i) t
   impossible i e k = omega (arith, within-tolerances (row s i) t .0 k, leb-false (natAbs (R i)) (T i) e)
 
   -- ---- the rows that are met
 
   abbrev p : ℕ → Bool
-  p i = within (R i) (T i)
+  p i = rowMet (R i) (T i)
 
-  all-met : first-unmet s t ≡ 0 → (i : ℕ) → i < s .n → p i ≡ true
-  unfolding first-unmet
+  all-met : firstUnmet s t ≡ 0 → (i : ℕ) → i < s .n → p i ≡ true
+  unfolding firstUnmet
   all-met e = first-not-zero p (s .n) e .all
 
-  first-fails : (m : ℕ) → first-unmet s t ≡ suc m → Fails p (s .n) m
-  unfolding first-unmet
+  first-fails : (m : ℕ) → firstUnmet s t ≡ suc m → Fails p (s .n) m
+  unfolding firstUnmet
   first-fails m e = first-not-suc p (s .n) m e
 
-  first-impossible : (m : ℕ) → first-unmet s t ≡ m → 0 < m → FirstImpossible s t (m - 1)
+  first-impossible : (m : ℕ) → firstUnmet s t ≡ m → 0 < m → FirstImpossible s t (m - 1)
   first-impossible zero e l = absurd (omega arith)
   first-impossible (suc m) e l =
       let f = first-fails m e in
@@ -72,12 +73,12 @@ module _ (s : System) (t : Trial) where
       rw q (record { place = f .place; impossible = impossible m (f .here); before = λ i k. possible i (f .before i k) })
 
   module _ (w : Finding) (a : Agrees s t w) where
-    met-zero : w .met ≡ true → first-unmet s t ≡ 0
-    met-zero e = eqb-true (first-unmet s t) 0 (sym (a .met) ∙ e)
+    met-zero : w .met ≡ true → firstUnmet s t ≡ 0
+    met-zero e = eqb-true (firstUnmet s t) 0 (sym (a .met) ∙ e)
 
     unmet-row : w .met ≡ false → (0 < w .unmet) × FirstImpossible s t (w .unmet - 1)
     unmet-row e =
-        let n = eqb-false (first-unmet s t) 0 (sym (a .met) ∙ e) in
+        let n = eqb-false (firstUnmet s t) 0 (sym (a .met) ∙ e) in
         let l : 0 < w .unmet = omega (arith, a .unmet) in
         (l, first-impossible (w .unmet) (sym (a .unmet)) l)
 
@@ -100,19 +101,19 @@ module _ (s : System) (t : Trial) where
     unfolding deciding
     greatest = first-greatest-is (λ i. factor (R i) (T i)) (s .n) h
 
-    least : no-factor (R d) (T d) ≡ false → Least (natAbs (R d)) (below (natAbs (R d)) (T d)) s t
+    least : noFactor (R d) (T d) ≡ false → Least (natAbs (R d)) (orderedDenominator (natAbs (R d)) (T d)) s t
     least e =
         let v = proper (natAbs (R d)) (T d) e in
         record {
           proper = v;
           attained = λ i l.
-              oettli-prager (row s i) t (natAbs (R d)) (below (natAbs (R d)) (T d)) v .1
-              (cross-from-base (natAbs (R i)) (T i) (natAbs (R d)) (below (natAbs (R d)) (T d)) (greatest .greatest i l));
+              oettli-prager (row s i) t (natAbs (R d)) (orderedDenominator (natAbs (R d)) (T d)) v .1
+              (cross-from-base (natAbs (R i)) (T i) (natAbs (R d)) (orderedDenominator (natAbs (R d)) (T d)) (greatest .greatest i l));
           least = λ u′ v′ v′-pos all.
               cross-to-base (natAbs (R d)) (T d) u′ v′ (oettli-prager (row s d) t u′ v′ v′-pos .0 (all d (greatest .place)));
         }
 
-    hopeless : no-factor (R d) (T d) ≡ true → (u v : ℕ) → 0 < v → ¬ AllUnder u v s t
+    hopeless : noFactor (R d) (T d) ≡ true → (u v : ℕ) → 0 < v → ¬ AllUnder u v s t
     hopeless e u v v-pos all =
         let q = improper (natAbs (R d)) (T d) e in
         omega (
@@ -131,7 +132,7 @@ module _ (s : System) (t : Trial) (h : 0 < s .n) where
     place : w .decides - 1 ≡ deciding s t
     place = omega (arith, a .decides)
 
-    num-is : factor-num w ≡ natAbs (residual (row s (deciding s t)) t)
+    num-is : factorNumerator w ≡ natAbs (residual (row s (deciding s t)) t)
     num-is = ap natAbs (ap (w .R) place ∙ a .R (deciding s t) (greatest s t h .place))
 
     reach-is : w .T (w .decides - 1) ≡ reach (row s (deciding s t)) t

@@ -1,20 +1,19 @@
 // The judgement of a trial answer, exactly, by the theorem of Oettli and Prager.
-use integers::magnitude;
-use limits::MOST_COEFFICIENTS;
-use limits::MOST_TANKS;
-ghost use mathlib.Core.Path.{_≡_};
-ghost use mathlib.Core.List.{[]};
 ghost use Prim.Native.Nat.{_+_, _*_, _^_, _≤_, _<_};
-ghost use lib.ListN.{getD};
 ghost use lib.IntN.{ℤ, pos, natAbs, _-ℤ_, _*ℤ_};
+ghost use lib.ListN.{getD};
+ghost use mathlib.Core.List.{[]};
+ghost use mathlib.Core.Path.{_≡_};
 ghost use Rattle.limits.specs.Limits.{mostTanks, mostCoefficients};
 ghost use Rattle.integers.specs.Sums.{sum, total};
 ghost use Rattle.fractions.specs.Fraction.{order};
-ghost use Rattle.fractions.specs.Greatest.{is-greater, first-greatest};
+ghost use Rattle.fractions.specs.Greatest.{isGreater, firstGreatest};
+ghost use Rattle.judge.specs.Judgement.{scaledRightSides, scaledRightTolerances};
+ghost use Rattle.judge.specs.Judgement.{rowMet, factor, noFactor, firstNot, residualVector as residualsOf, reachVector as reachesOf, judgement, measurement, concluded};
 ghost use Rattle.judge.specs.System.{system, trial as trialOf};
-ghost use Rattle.judge.specs.Places.{Cleared};
-ghost use Rattle.judge.specs.ZeroTrial.{scaled-sides, scaled-tolerances};
-ghost use Rattle.judge.specs.Judgement.{within, factor, no-factor, first-not, residuals as residualsOf, reaches as reachesOf, judgement, standing, concluded};
+use integers::magnitude;
+use limits::MOST_COEFFICIENTS;
+use limits::MOST_TANKS;
 
 // D b of one row.
 fn scaled_side(scale: u16, right_side: i32) -> i64
@@ -81,7 +80,7 @@ fn row_reach<'a>(
     scaled_tolerance(scale, right_tolerance) + t
 }
 
-// The residual of every row, in place; 0 past the last.
+// The residual of every row; 0 past the last. Whatever the list held, it is written whole.
 pub fn fill_residuals<'a>(
     n: usize,
     scale: u16,
@@ -90,15 +89,16 @@ pub fn fill_residuals<'a>(
     trial: &'a [i32; MOST_TANKS],
     residuals: &mut [i64; MOST_TANKS],
 )
-    requires { ⌜ (n ≤ mostTanks) × Cleared n (pos 0) (now residuals) ⌝ }
+    requires { ⌜ n ≤ mostTanks ⌝ }
     ensures { λ r. ⌜ now (residuals .exit) ≡ residualsOf (system n (now (coefficients .entry)) [] (now («right_sides» .entry)) []) (trialOf n scale (now (trial .entry))) ⌝ }
 {
+    *residuals = [0i64; MOST_TANKS];
     for i in 0..n {
         residuals[i] = row_residual(n, i * n, scale, coefficients, right_sides[i], trial);
     }
 }
 
-// The reach of every row, in place; 0 past the last.
+// The reach of every row; 0 past the last. Whatever the list held, it is written whole.
 pub fn fill_reaches<'a>(
     n: usize,
     scale: u16,
@@ -107,9 +107,10 @@ pub fn fill_reaches<'a>(
     trial: &'a [i32; MOST_TANKS],
     reaches: &mut [u64; MOST_TANKS],
 )
-    requires { ⌜ (n ≤ mostTanks) × Cleared n 0 (now reaches) ⌝ }
+    requires { ⌜ n ≤ mostTanks ⌝ }
     ensures { λ r. ⌜ now (reaches .exit) ≡ reachesOf (system n [] (now (tolerances .entry)) [] (now («right_tolerances» .entry))) (trialOf n scale (now (trial .entry))) ⌝ }
 {
+    *reaches = [0u64; MOST_TANKS];
     for i in 0..n {
         reaches[i] = row_reach(n, i * n, scale, tolerances, right_tolerances[i], trial);
     }
@@ -122,7 +123,7 @@ pub fn first_beyond<'a>(
     reaches: &'a [u64; MOST_TANKS],
 ) -> usize
     requires { ⌜ n ≤ mostTanks ⌝ }
-    ensures { λ r. ⌜ r ≡ first-not (λ i. within (getD (now (residuals .entry)) i (pos 0)) (getD (now (reaches .entry)) i 0)) n ⌝ }
+    ensures { λ r. ⌜ r ≡ firstNot (λ i. rowMet (getD (now (residuals .entry)) i (pos 0)) (getD (now (reaches .entry)) i 0)) n ⌝ }
 {
     let mut i = 0;
     while i < n {
@@ -136,7 +137,7 @@ pub fn first_beyond<'a>(
 
 // Whether a row has no factor: a residual, and no reach.
 fn lacks_factor(residual: i64, reach: u64) -> bool
-    ensures { λ r. ⌜ r ≡ no-factor residual reach ⌝ }
+    ensures { λ r. ⌜ r ≡ noFactor residual reach ⌝ }
 {
     if reach == 0 {
         magnitude(residual) != 0
@@ -147,7 +148,7 @@ fn lacks_factor(residual: i64, reach: u64) -> bool
 
 // Whether the factor |r| / t is greater than |s| / u.
 fn exceeds(r: i64, t: u64, s: i64, u: u64) -> bool
-    ensures { λ x. ⌜ x ≡ is-greater (order (factor r t) (factor s u)) ⌝ }
+    ensures { λ x. ⌜ x ≡ isGreater (order (factor r t) (factor s u)) ⌝ }
 {
     fractions::exceeds(magnitude(r), t, magnitude(s), u)
 }
@@ -159,7 +160,7 @@ fn greatest_factor<'a>(
     reaches: &'a [u64; MOST_TANKS],
 ) -> usize
     requires { ⌜ n ≤ mostTanks ⌝ }
-    ensures { λ r. ⌜ r ≡ first-greatest (λ i. factor (getD (now (residuals .entry)) i (pos 0)) (getD (now (reaches .entry)) i 0)) n ⌝ }
+    ensures { λ r. ⌜ r ≡ firstGreatest (λ i. factor (getD (now (residuals .entry)) i (pos 0)) (getD (now (reaches .entry)) i 0)) n ⌝ }
 {
     let mut best = 0;
     let mut i = 1;
@@ -173,7 +174,7 @@ fn greatest_factor<'a>(
 }
 
 // What a trial leaves of each row. Rows are counted from 1.
-pub struct Standing {
+pub struct Measurement {
     // the first unmet row, or 0 where every row is met
     pub unmet: usize,
     // residual and reach of each row, 0 past the last row
@@ -181,31 +182,33 @@ pub struct Standing {
     pub reaches: [u64; MOST_TANKS],
 }
 
-// D b of every row, in place: the residuals of the zero trial; 0 past the last.
+// D b of every row: the residuals of the zero trial; 0 past the last. Whatever the list held, it is written whole.
 pub fn fill_scaled_sides(
     n: usize,
     scale: u16,
     right_sides: &[i32; MOST_TANKS],
     residuals: &mut [i64; MOST_TANKS],
 )
-    requires { ⌜ (n ≤ mostTanks) × Cleared n (pos 0) (now residuals) ⌝ }
-    ensures { λ r. ⌜ now (residuals .exit) ≡ scaled-sides n scale (now («right_sides» .entry)) ⌝ }
+    requires { ⌜ n ≤ mostTanks ⌝ }
+    ensures { λ r. ⌜ now (residuals .exit) ≡ scaledRightSides n scale (now («right_sides» .entry)) ⌝ }
 {
+    *residuals = [0i64; MOST_TANKS];
     for i in 0..n {
         residuals[i] = scaled_side(scale, right_sides[i]);
     }
 }
 
-// D f of every row, in place: the reaches of the zero trial; 0 past the last.
+// D f of every row: the reaches of the zero trial; 0 past the last. Whatever the list held, it is written whole.
 pub fn fill_scaled_tolerances(
     n: usize,
     scale: u16,
     right_tolerances: &[u32; MOST_TANKS],
     reaches: &mut [u64; MOST_TANKS],
 )
-    requires { ⌜ (n ≤ mostTanks) × Cleared n 0 (now reaches) ⌝ }
-    ensures { λ r. ⌜ now (reaches .exit) ≡ scaled-tolerances n scale (now («right_tolerances» .entry)) ⌝ }
+    requires { ⌜ n ≤ mostTanks ⌝ }
+    ensures { λ r. ⌜ now (reaches .exit) ≡ scaledRightTolerances n scale (now («right_tolerances» .entry)) ⌝ }
 {
+    *reaches = [0u64; MOST_TANKS];
     for i in 0..n {
         reaches[i] = scaled_tolerance(scale, right_tolerances[i]);
     }
@@ -225,17 +228,17 @@ pub struct Judgement {
 }
 
 // The judgement of n rows, from what a trial leaves of them.
-pub fn conclude(n: usize, standing: Standing) -> Judgement
+pub fn conclude(n: usize, measurement: Measurement) -> Judgement
     requires { ⌜ n ≤ mostTanks ⌝ }
-    ensures { λ r. ⌜ r ≡ concluded n standing ⌝ }
+    ensures { λ r. ⌜ r ≡ concluded n measurement ⌝ }
 {
-    let at = greatest_factor(n, &standing.residuals, &standing.reaches);
-    let none = lacks_factor(standing.residuals[at], standing.reaches[at]);
-    let residuals = standing.residuals;
-    let reaches = standing.reaches;
+    let at = greatest_factor(n, &measurement.residuals, &measurement.reaches);
+    let none = lacks_factor(measurement.residuals[at], measurement.reaches[at]);
+    let residuals = measurement.residuals;
+    let reaches = measurement.reaches;
     Judgement {
-        met: standing.unmet == 0,
-        unmet: standing.unmet,
+        met: measurement.unmet == 0,
+        unmet: measurement.unmet,
         none,
         decides: at + 1,
         residuals,
@@ -256,7 +259,7 @@ pub fn judge<'a>(
     requires { ⌜ n ≤ mostTanks ⌝ }
     ensures { λ r. ⌜ r ≡ judgement (system n (now (coefficients .entry)) (now (tolerances .entry)) (now («right_sides» .entry)) (now («right_tolerances» .entry))) (trialOf n scale (now (trial .entry))) ⌝ }
 {
-    let mut standing = Standing {
+    let mut measurement = Measurement {
         unmet: 0,
         residuals: [0i64; MOST_TANKS],
         reaches: [0u64; MOST_TANKS],
@@ -267,7 +270,7 @@ pub fn judge<'a>(
         coefficients,
         right_sides,
         trial,
-        &mut standing.residuals,
+        &mut measurement.residuals,
     );
     fill_reaches(
         n,
@@ -275,9 +278,9 @@ pub fn judge<'a>(
         tolerances,
         right_tolerances,
         trial,
-        &mut standing.reaches,
+        &mut measurement.reaches,
     );
-    let unmet = first_beyond(n, &standing.residuals, &standing.reaches);
-    standing.unmet = unmet;
-    conclude(n, standing)
+    let unmet = first_beyond(n, &measurement.residuals, &measurement.reaches);
+    measurement.unmet = unmet;
+    conclude(n, measurement)
 }

@@ -1,4 +1,5 @@
--- The limits of a case's figures: document 01, "Figures". Definitions only. Assumes nothing.
+-- Definitions only.
+-- The limits of a case's figures: document 01, "Figures".
 use Prim.Native.Nat.{ℕ, _*_}
 
 -- "n is 1 to 8", "The exponent e is 0 to 3", "rounds K: 0 to 8"

@@ -1,14 +1,14 @@
 -- Laws of refusals and their numbers, of answers that cannot be both, and of checks in sequence. Assumes nothing.
-use mathlib.Core.Path.{_≡_, refl, sym, ap, _∙_}
-use mathlib.Core.Bool.{Bool, true, false, true≢false}
 use Prim.Native.Nat.{ℕ}
+use mathlib.Core.Bool.{Bool, true, false, true≢false}
+use mathlib.Core.Path.{_≡_, refl, sym, ap, _∙_}
 use native.Mathlib.Omega.{arith}
+use Rattle.outcome.specs.Outcome.{numberOf, refusalOf, statusNumber, reportedOutcome, check, first}
+use Rattle.outcome.specs.declared.Outcome.the-variants.{Count, Refused as RefusedBy}
 use Rattle.outcome.specs.declared.Refusal.{Refusal}
 use Rattle.outcome.specs.declared.Refusal.the-variants.{BufferTooShort, FieldMissing, WrongTag, WrongLength, ValueCutShort, OutsideLimits, TrailingBytes, ZeroPivot, OutsideRange}
-use Rattle.outcome.specs.declared.Outcome.the-variants.{Count, Refused as RefusedBy}
 use Rattle.outcome.specs.declared.Status.{Status}
 use Rattle.outcome.specs.declared.Status.the-variants.{Accepted, Refused}
-use Rattle.outcome.specs.Outcome.{numberOf, refusalOf, said, check, first}
 
 -- each refusal has a number of its own
 pub refusal-of-number : (r : Refusal) → refusalOf (numberOf r) ≡ r
@@ -22,17 +22,33 @@ refusal-of-number TrailingBytes = refl
 refusal-of-number ZeroPivot = refl
 refusal-of-number OutsideRange = refl
 
+same-number : (q r : Refusal) → numberOf q ≡ numberOf r → q ≡ r
+same-number q r e = sym (refusal-of-number q) ∙ ap refusalOf e ∙ refusal-of-number r
+
 -- ---- an answer is one of its kinds
 
 pub not-both : {P : Type 0} (s : Status) (r : Refusal) → s ≡ Refused r → s ≡ Accepted → P
 not-both s r e g = let z : _≡_ {A = ℕ} 0 1 = cc in absurd (omega arith)
 
-pub no-count : {P : Type 0} (r : Refusal) (m : ℕ) → said (RefusedBy r) ≡ said (Count m) → P
+pub no-count : {P : Type 0} (r : Refusal) (m : ℕ) → reportedOutcome (RefusedBy r) ≡ reportedOutcome (Count m) → P
 no-count r m e = absurd (true≢false (ap (λ s. s .refused) e))
 
--- what is said tells the refusal
-pub same-refusal : (q r : Refusal) → said (RefusedBy q) ≡ said (RefusedBy r) → q ≡ r
-same-refusal q r e = sym (refusal-of-number q) ∙ ap (λ s. refusalOf (s .number)) e ∙ refusal-of-number r
+-- what is reported tells the refusal
+pub same-refusal : (q r : Refusal) → reportedOutcome (RefusedBy q) ≡ reportedOutcome (RefusedBy r) → q ≡ r
+same-refusal q r e = same-number q r (ap (λ s. s .number) e)
+
+-- a status is told by its number: no refusal has 0
+number-above : (r : Refusal) → 0 ≡ numberOf r → ⊥
+number-above r e =
+    let k : r ≡ BufferTooShort = sym (refusal-of-number r) ∙ ap refusalOf (sym e) in
+    let z : _≡_ {A = ℕ} 0 1 = e ∙ ap numberOf k in
+    omega arith
+
+pub same-status : (a b : Status) → statusNumber a ≡ statusNumber b → a ≡ b
+same-status Accepted Accepted e = refl
+same-status Accepted (Refused r) e = absurd (number-above r e)
+same-status (Refused q) Accepted e = absurd (number-above q (sym e))
+same-status (Refused q) (Refused r) e = ap Refused (same-number q r e)
 
 -- ---- checks
 

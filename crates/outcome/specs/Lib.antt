@@ -1,2 +1,4 @@
 pub mod Outcome
+pub mod CallResult
 pub mod Laws
+pub mod CallResultLaws

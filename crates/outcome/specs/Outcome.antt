@@ -1,12 +1,13 @@
--- The paper's number of each refusal and of each outcome, and the first of two checks that refuses.
+-- Definitions only.
+-- The paper's number of each refusal, of each outcome and of each status, and the first of two checks that refuses.
 use Prim.Native.Nat.{ℕ, _-_}
-use mathlib.Core.List.{List, [], _∷_}
 use lib.ListN.{getD}
 use mathlib.Core.Bool.{Bool, true, false}
-use Rattle.outcome.specs.declared.Refusal.{Refusal}
-use Rattle.outcome.specs.declared.Refusal.the-variants.{BufferTooShort, FieldMissing, WrongTag, WrongLength, ValueCutShort, OutsideLimits, TrailingBytes, ZeroPivot, OutsideRange}
+use mathlib.Core.List.{List, [], _∷_}
 use Rattle.outcome.specs.declared.Outcome.{Outcome}
 use Rattle.outcome.specs.declared.Outcome.the-variants.{Count, Refused}
+use Rattle.outcome.specs.declared.Refusal.{Refusal}
+use Rattle.outcome.specs.declared.Refusal.the-variants.{BufferTooShort, FieldMissing, WrongTag, WrongLength, ValueCutShort, OutsideLimits, TrailingBytes, ZeroPivot, OutsideRange}
 use Rattle.outcome.specs.declared.Status.{Status}
 use Rattle.outcome.specs.declared.Status.the-variants.{Accepted, Refused as RefusedBy}
 
@@ -50,12 +51,17 @@ outcomeNumber (Count m) = m
 outcomeNumber (Refused r) = numberOf r
 
 -- an outcome as the paper has it, in which every promise of a call is made
-pub record Said : Type 0 where
+pub record ReportedOutcome : Type 0 where
   pub refused : Bool
   pub number : ℕ
 
-abbrev pub said : Outcome → Said
-said o = record { refused = refuses o; number = outcomeNumber o }
+abbrev pub reportedOutcome : Outcome → ReportedOutcome
+reportedOutcome o = record { refused = refuses o; number = outcomeNumber o }
+
+-- a status as the paper has it, in which every promise of a check is made: 0 where nothing is refused
+abbrev pub statusNumber : Status → ℕ
+statusNumber Accepted = 0
+statusNumber (RefusedBy r) = numberOf r
 
 -- a test, and the refusal where it fails
 abbrev pub check : Bool → Refusal → Status

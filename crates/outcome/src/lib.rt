@@ -1,6 +1,6 @@
 // What a call or a check answers, the number that document 01 gives each refusal, and the answer of a check by one test.
 ghost use mathlib.Core.Path.{_≡_};
-ghost use Rattle.outcome.specs.Outcome.{numberOf, check as checked};
+ghost use Rattle.outcome.specs.Outcome.{numberOf, statusNumber, check as checked};
 
 // Document 01, "Refused, in this order".
 pub enum Refusal {
@@ -46,7 +46,7 @@ pub fn number(refusal: Refusal) -> u8
 
 // The answer of a check by one test: the refusal where it fails.
 pub fn check(passed: bool, refusal: Refusal) -> Status
-    ensures { λ r. ⌜ r ≡ checked passed refusal ⌝ }
+    ensures { λ r. ⌜ statusNumber r ≡ statusNumber (checked passed refusal) ⌝ }
 {
     if passed {
         Status::Accepted

@@ -1,33 +1,33 @@
 -- How long a record's parts are, where its fields end, and a field whose value begins with a flag, stored. Assumes nothing.
-use mathlib.Core.Path.{_≡_, ap, _∙_}
+use Prim.Native.Nat.{ℕ, _+_, _≤_}
+use lib.IntN.{ℤ, pos}
+use lib.ListN.{length, getD, length-append}
+use lib.Seq.{sets}
 use mathlib.Core.Bool.{Bool}
 use mathlib.Core.List.{List, [], _∷_}
-use Prim.Native.Nat.{ℕ, _+_, _≤_}
+use mathlib.Core.Path.{_≡_, ap, _∙_}
 use native.Mathlib.Omega.{arith}
-use lib.ListN.{length, getD, length-append}
-use lib.IntN.{ℤ, pos}
-use lib.Seq.{sets}
 use Rattle.limits.specs.Limits.{mostTanks}
 use Rattle.buffer.specs.Buffer.{onto, run}
 use Rattle.buffer.specs.RunLaws.{length-run}
-use Rattle.figures.specs.Figures.{i32, i64, u64, figureBytes}
+use Rattle.judge.specs.declared.Judgement.{Judgement}
 use Rattle.figures.specs.FigureLaws.{length-figure}
+use Rattle.figures.specs.Figures.{i32Kind, i64Kind, u64Kind, figureBytes}
 use Rattle.fields.specs.Field.{headerSize, header, field, endTag, endField}
 use Rattle.fields.specs.FieldLaws.{length-field, field-stored}
-use Rattle.judge.specs.declared.Judgement.{Judgement}
-use Rattle.recordfile.specs.Layout.{answerLength, pairSize, rowsLength, answerAt, rowsAt, factorAt, endAt, verdictTag, answerTag, rowsTag, factorTag, flag, answerBytes, pairAt, verdictField, answerField, rowsField, factorField, recordOf, recordLength, longestRecord}
+use Rattle.recordfile.specs.Layout.{answerLength, pairSize, rowsLength, answerAt, recordRowsAt, factorAt, recordEndAt, verdictTag, answerTag, rowsTag, factorTag, flag, answerBytes, pairAt, verdictField, answerField, rowsField, factorField, recordOf, recordLength, longestRecord}
 
-pub length-answer : (Y : List ℤ) (j : ℕ) → length (answerBytes Y j) ≡ i32 .width
-length-answer Y j = length-figure i32 (getD Y j (pos 0))
+pub length-answer : (Y : List ℤ) (j : ℕ) → length (answerBytes Y j) ≡ i32Kind .width
+length-answer Y j = length-figure i32Kind (getD Y j (pos 0))
 
 pub length-pair : (R : List ℤ) (T : List ℕ) (i : ℕ) → length (pairAt R T i) ≡ pairSize
 length-pair R T i =
     let r = getD R i (pos 0) in
     let t = getD T i 0 in
-    length-append (figureBytes i64 r) (figureBytes u64 t) ∙ omega (arith, length-figure i64 r, length-figure u64 t)
+    length-append (figureBytes i64Kind r) (figureBytes u64Kind t) ∙ omega (arith, length-figure i64Kind r, length-figure u64Kind t)
 
 pub length-answers : (n : ℕ) (Y : List ℤ) → length (run n (answerBytes Y)) ≡ answerLength n
-length-answers n Y = length-run (i32 .width) (answerBytes Y) (length-answer Y) n
+length-answers n Y = length-run (i32Kind .width) (answerBytes Y) (length-answer Y) n
 
 pub length-pairs : (n : ℕ) (R : List ℤ) (T : List ℕ) → length (run n (pairAt R T)) ≡ rowsLength n
 length-pairs n R T = length-run pairSize (pairAt R T) (length-pair R T) n
@@ -38,10 +38,10 @@ module _ (n rounds : ℕ) (Y : List ℤ) (j : Judgement) where
   -- each ends where the next begins, and the last with the record
   pub record Ends : Type 0 where
     pub verdict : length (verdictField (j .met) (j .unmet) rounds) ≡ answerAt
-    pub answer : answerAt + length (answerField n Y) ≡ rowsAt n
-    pub rows : rowsAt n + length (rowsField n (j .residuals) (j .reaches)) ≡ factorAt n
-    pub factor : factorAt n + length (factorField (j .none) (j .decides)) ≡ endAt n
-    pub end : endAt n + length endField ≡ recordLength n
+    pub answer : answerAt + length (answerField n Y) ≡ recordRowsAt n
+    pub rows : recordRowsAt n + length (rowsField n (j .residuals) (j .reaches)) ≡ factorAt n
+    pub factor : factorAt n + length (factorField (j .none) (j .decides)) ≡ recordEndAt n
+    pub end : recordEndAt n + length endField ≡ recordLength n
 
   pub ends : Ends
   ends =

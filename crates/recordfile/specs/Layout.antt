@@ -1,15 +1,16 @@
--- The bytes of a record: document 01, "A record is". Definitions only. Assumes nothing.
-use mathlib.Core.Path.{_≡_}
+-- Definitions only.
+-- The bytes of a record: document 01, "A record is".
+use Prim.Native.Nat.{ℕ, _+_, _*_, _≤_, _<_}
+use lib.IntN.{ℤ, pos}
+use lib.ListN.{getD}
 use mathlib.Core.Bool.{Bool, true, false}
 use mathlib.Core.List.{List, [], _∷_, _++_}
-use Prim.Native.Nat.{ℕ, _+_, _*_, _≤_, _<_}
-use lib.ListN.{getD}
-use lib.IntN.{ℤ, pos}
+use mathlib.Core.Path.{_≡_}
 use Rattle.limits.specs.Limits.{mostTanks}
 use Rattle.buffer.specs.Buffer.{run, concat}
-use Rattle.figures.specs.Figures.{i32, i64, u64, figureBytes}
-use Rattle.fields.specs.Field.{headerSize, field, endField}
 use Rattle.judge.specs.declared.Judgement.{Judgement}
+use Rattle.figures.specs.Figures.{i32Kind, i64Kind, u64Kind, figureBytes}
+use Rattle.fields.specs.Field.{headerSize, field, endField}
 use Rattle.recordfile.specs.declared.RecordPlaces.{RecordPlaces}
 
 -- the tags 10, 11, 12 and 13, hexadecimal
@@ -30,14 +31,14 @@ abbrev pub verdictLength : ℕ
 verdictLength = 3
 
 abbrev pub answerLength : ℕ → ℕ
-answerLength n = i32 .width * n
+answerLength n = i32Kind .width * n
 
 -- where a row's reach stands in its pair, and how long the pair is: "that row's sixteen bytes"
 abbrev pub reachAt : ℕ
-reachAt = i64 .width
+reachAt = i64Kind .width
 
 abbrev pub pairSize : ℕ
-pairSize = reachAt + u64 .width
+pairSize = reachAt + u64Kind .width
 
 abbrev pub rowsLength : ℕ → ℕ
 rowsLength n = pairSize * n
@@ -59,22 +60,22 @@ roundsAt = unmetAt + 1
 abbrev pub answerAt : ℕ
 answerAt = headerSize + verdictLength
 
-abbrev pub rowsAt : ℕ → ℕ
-rowsAt n = answerAt + headerSize + answerLength n
+abbrev pub recordRowsAt : ℕ → ℕ
+recordRowsAt n = answerAt + headerSize + answerLength n
 
 abbrev pub factorAt : ℕ → ℕ
-factorAt n = rowsAt n + headerSize + rowsLength n
+factorAt n = recordRowsAt n + headerSize + rowsLength n
 
-abbrev pub endAt : ℕ → ℕ
-endAt n = factorAt n + headerSize + factorLength
+abbrev pub recordEndAt : ℕ → ℕ
+recordEndAt n = factorAt n + headerSize + factorLength
 
 -- the lengths and places of a record of n figures and rows, as the program holds them
 pub record RecordPlaced (n : ℕ) (r : RecordPlaces) : Type 0 where
   pub answer-len : r .«answer_len» ≡ answerLength n
-  pub rows : r .rows ≡ rowsAt n
+  pub rows : r .rows ≡ recordRowsAt n
   pub rows-len : r .«rows_len» ≡ rowsLength n
   pub factor : r .factor ≡ factorAt n
-  pub end : r .end ≡ endAt n
+  pub end : r .end ≡ recordEndAt n
 
 -- where the parts of field 13 stand
 abbrev pub noneAt : ℕ → ℕ
@@ -88,7 +89,7 @@ flag true = 1
 flag false = 0
 
 abbrev pub pair : ℤ → ℕ → List ℕ
-pair R T = figureBytes i64 R ++ figureBytes u64 T
+pair R T = figureBytes i64Kind R ++ figureBytes u64Kind T
 
 -- "1 for met or 0 for not met; the first unmet row or 0; rounds used"
 abbrev pub verdictField : Bool → ℕ → ℕ → List ℕ
@@ -96,7 +97,7 @@ verdictField met unmet rounds = field verdictTag (flag met ∷ unmet ∷ rounds 
 
 -- "the answer, 4 bytes each": tank j's, from 0, and the first n figures of Y
 abbrev pub answerBytes : List ℤ → ℕ → List ℕ
-answerBytes Y j = figureBytes i32 (getD Y j (pos 0))
+answerBytes Y j = figureBytes i32Kind (getD Y j (pos 0))
 
 abbrev pub answerField : ℕ → List ℤ → List ℕ
 answerField n Y = field answerTag (run n (answerBytes Y))

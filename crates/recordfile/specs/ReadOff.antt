@@ -1,13 +1,14 @@
--- What a record says, read off its bytes by position and big-endian value. Definitions only. Assumes nothing.
-use mathlib.Core.List.{List}
+-- Definitions only.
+-- What a record says, read off its bytes by position and big-endian value.
 use Prim.Native.Nat.{ℕ, _+_, _*_}
 use lib.Dec.{eqb}
-use lib.ListN.{getD, drop}
 use lib.IntN.{ℤ}
-use Rattle.figures.specs.Figures.{i32, i64, u64, figureAt}
-use Rattle.fields.specs.Field.{headerSize}
+use lib.ListN.{getD, drop}
+use mathlib.Core.List.{List}
 use Rattle.judge.specs.Finding.{Finding}
-use Rattle.recordfile.specs.Layout.{pairSize, reachAt, metAt, unmetAt, roundsAt, answerAt, rowsAt, noneAt, decidesAt}
+use Rattle.figures.specs.Figures.{i32Kind, i64Kind, u64Kind, figureAt}
+use Rattle.fields.specs.Field.{headerSize}
+use Rattle.recordfile.specs.Layout.{pairSize, reachAt, metAt, unmetAt, roundsAt, answerAt, recordRowsAt, noneAt, decidesAt}
 
 -- a value begins behind its field's header: the rounds of field 10
 abbrev pub recordedRounds : List ℕ → ℕ
@@ -15,7 +16,7 @@ recordedRounds bytes = getD bytes roundsAt 0
 
 -- tank j, from 0
 abbrev pub recordedAnswer : List ℕ → ℕ → ℤ
-recordedAnswer bytes j = figureAt i32 (drop (answerAt + headerSize + i32 .width * j) bytes)
+recordedAnswer bytes j = figureAt i32Kind (drop (answerAt + headerSize + i32Kind .width * j) bytes)
 
 -- verdict, named row, none and the row that decides; of row i, from 0, its residual and reach
 abbrev pub recordedFinding : ℕ → List ℕ → Finding
@@ -25,6 +26,6 @@ recordedFinding n bytes =
       unmet = getD bytes unmetAt 0;
       none = eqb (getD bytes (noneAt n) 0) 1;
       decides = getD bytes (decidesAt n) 0;
-      R = λ i. figureAt i64 (drop (rowsAt n + headerSize + pairSize * i) bytes);
-      T = λ i. figureAt u64 (drop (rowsAt n + headerSize + pairSize * i + reachAt) bytes);
+      R = λ i. figureAt i64Kind (drop (recordRowsAt n + headerSize + pairSize * i) bytes);
+      T = λ i. figureAt u64Kind (drop (recordRowsAt n + headerSize + pairSize * i + reachAt) bytes);
     }

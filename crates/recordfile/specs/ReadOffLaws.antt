@@ -1,25 +1,25 @@
 -- What is read off a record is what was written into it. Assumes nothing.
-use mathlib.Core.Path.{_≡_, refl, sym, ap, _∙_}
-use mathlib.Core.Bool.{Bool, true, false}
-use mathlib.Core.List.{List, [], _++_, append-assoc}
 use Prim.Native.Nat.{ℕ, _+_, _*_, _^_, _<_}
-use native.Mathlib.Omega.{arith}
 use lib.Dec.{eqb}
+use lib.IntN.{ℤ, pos}
 use lib.ListN.{length, getD, drop}
 use lib.Seq.{drop-at, drop-drop, getD-drop}
-use lib.IntN.{ℤ, pos}
+use mathlib.Core.Bool.{Bool, true, false}
+use mathlib.Core.List.{List, [], _++_, append-assoc}
+use mathlib.Core.Path.{_≡_, refl, sym, ap, _∙_}
 use mir.Syntax.{w32, w64}
 use mir.Val.{SFits}
-use Rattle.bigendian.specs.Number.{bytes}
+use native.Mathlib.Omega.{arith}
 use Rattle.buffer.specs.Buffer.{run}
 use Rattle.buffer.specs.RunLaws.{Piece, run-piece}
-use Rattle.figures.specs.Figures.{i32, i64, u64, figureAt, figureBytes}
+use Rattle.judge.specs.declared.Judgement.{Judgement}
+use Rattle.bigendian.specs.Number.{beBytes}
 use Rattle.figures.specs.FigureLaws.{length-figure, figure-back, signed-back}
+use Rattle.figures.specs.Figures.{i32Kind, i64Kind, u64Kind, figureAt, figureBytes}
 use Rattle.fields.specs.Field.{headerSize, field, endField}
 use Rattle.fields.specs.FieldLaws.{field-value}
-use Rattle.judge.specs.declared.Judgement.{Judgement}
-use Rattle.recordfile.specs.Layout.{answerTag, rowsTag, pairSize, reachAt, answerAt, rowsAt, factorAt, flag, answerBytes, pairAt, verdictField, answerField, rowsField, factorField, recordOf}
 use Rattle.recordfile.specs.Laws.{length-answer, length-pair, ends}
+use Rattle.recordfile.specs.Layout.{answerTag, rowsTag, pairSize, reachAt, answerAt, recordRowsAt, factorAt, flag, answerBytes, pairAt, verdictField, answerField, rowsField, factorField, recordOf}
 use Rattle.recordfile.specs.ReadOff.{recordedRounds, recordedAnswer, recordedFinding}
 
 flag-eqb : (b : Bool) → eqb (flag b) 1 ≡ b
@@ -36,15 +36,15 @@ module _ (n rounds : ℕ) (Y : List ℤ) (j : Judgement) where
   T i = getD (j .reaches) i 0
 
   pub recorded-met : recordedFinding n (recordOf n rounds Y j) .met ≡ j .met
-  unfolding recordOf field bytes
+  unfolding recordOf field beBytes
   recorded-met = flag-eqb (j .met)
 
   pub recorded-unmet : recordedFinding n (recordOf n rounds Y j) .unmet ≡ j .unmet
-  unfolding recordOf field bytes
+  unfolding recordOf field beBytes
   recorded-unmet = refl
 
   pub recorded-rounds : recordedRounds (recordOf n rounds Y j) ≡ rounds
-  unfolding recordOf field bytes
+  unfolding recordOf field beBytes
   recorded-rounds = refl
 
   -- ---- the whole, from each field on
@@ -75,19 +75,19 @@ module _ (n rounds : ℕ) (Y : List ℤ) (j : Judgement) where
   unfolding recordOf
   from-answer = drop-at (verdictField (j .met) (j .unmet) rounds) (answerField n Y ++ rows) answerAt (ends n rounds Y j .verdict)
 
-  from-rows : drop (rowsAt n) whole ≡ rows
+  from-rows : drop (recordRowsAt n) whole ≡ rows
   from-rows = past answerAt (answerField n Y) from-answer (ends n rounds Y j .answer)
 
   from-factor : drop (factorAt n) whole ≡ last
-  from-factor = past (rowsAt n) (rowsField n (j .residuals) (j .reaches)) from-rows (ends n rounds Y j .rows)
+  from-factor = past (recordRowsAt n) (rowsField n (j .residuals) (j .reaches)) from-rows (ends n rounds Y j .rows)
 
   -- ---- field 11
 
   pub recorded-answer : (i : ℕ) → i < n → SFits w32 (getD Y i (pos 0)) → recordedAnswer (recordOf n rounds Y j) i ≡ getD Y i (pos 0)
   recorded-answer i h f =
-      let p = run-piece (i32 .width) (answerBytes Y) (length-answer Y) n i rows h in
+      let p = run-piece (i32Kind .width) (answerBytes Y) (length-answer Y) n i rows h in
       let v = further answerAt headerSize from-answer ∙ field-value answerTag figures rows in
-      ap (figureAt i32) (further (answerAt + headerSize) (i32 .width * i) v ∙ p .here) ∙ signed-back w32 (getD Y i (pos 0)) f (p .behind)
+      ap (figureAt i32Kind) (further (answerAt + headerSize) (i32Kind .width * i) v ∙ p .here) ∙ signed-back w32 (getD Y i (pos 0)) f (p .behind)
 
   -- ---- field 12
 
@@ -98,25 +98,25 @@ module _ (n rounds : ℕ) (Y : List ℤ) (j : Judgement) where
     here : Piece pairSize i piece (pairs ++ last)
     here = run-piece pairSize piece (length-pair (j .residuals) (j .reaches)) n i last h
 
-    abbrev from-reach : List ℕ
-    from-reach = figureBytes u64 (T i) ++ here .behind
+    abbrev fromReach : List ℕ
+    fromReach = figureBytes u64Kind (T i) ++ here .behind
 
     -- row i's pair, with what follows it
-    row-place : drop (rowsAt n + headerSize + pairSize * i) whole ≡ figureBytes i64 (R i) ++ from-reach
+    row-place : drop (recordRowsAt n + headerSize + pairSize * i) whole ≡ figureBytes i64Kind (R i) ++ fromReach
     row-place =
-        let v = further (rowsAt n) headerSize from-rows ∙ field-value rowsTag pairs last in
-        further (rowsAt n + headerSize) (pairSize * i) v ∙ here .here ∙ append-assoc (figureBytes i64 (R i)) (figureBytes u64 (T i)) (here .behind)
+        let v = further (recordRowsAt n) headerSize from-rows ∙ field-value rowsTag pairs last in
+        further (recordRowsAt n + headerSize) (pairSize * i) v ∙ here .here ∙ append-assoc (figureBytes i64Kind (R i)) (figureBytes u64Kind (T i)) (here .behind)
 
     pub recorded-residual : SFits w64 (R i) → recordedFinding n (recordOf n rounds Y j) .R i ≡ R i
-    recorded-residual f = ap (figureAt i64) row-place ∙ signed-back w64 (R i) f from-reach
+    recorded-residual f = ap (figureAt i64Kind) row-place ∙ signed-back w64 (R i) f fromReach
 
-    reach-place : drop (rowsAt n + headerSize + pairSize * i + reachAt) whole ≡ from-reach
+    reach-place : drop (recordRowsAt n + headerSize + pairSize * i + reachAt) whole ≡ fromReach
     reach-place =
-        further (rowsAt n + headerSize + pairSize * i) reachAt row-place
-        ∙ drop-at (figureBytes i64 (R i)) from-reach reachAt (length-figure i64 (R i))
+        further (recordRowsAt n + headerSize + pairSize * i) reachAt row-place
+        ∙ drop-at (figureBytes i64Kind (R i)) fromReach reachAt (length-figure i64Kind (R i))
 
-    pub recorded-reach : T i < 256 ^ u64 .width → recordedFinding n (recordOf n rounds Y j) .T i ≡ T i
-    recorded-reach f = ap (figureAt u64) reach-place ∙ figure-back u64 (T i) f refl (here .behind)
+    pub recorded-reach : T i < 256 ^ u64Kind .width → recordedFinding n (recordOf n rounds Y j) .T i ≡ T i
+    recorded-reach f = ap (figureAt u64Kind) reach-place ∙ figure-back u64Kind (T i) f refl (here .behind)
 
   -- ---- field 13
 
@@ -124,12 +124,12 @@ module _ (n rounds : ℕ) (Y : List ℤ) (j : Judgement) where
   last-byte k = sym (getD-drop (factorAt n) whole k 0) ∙ ap (λ l. getD l k 0) from-factor
 
   pub recorded-none : recordedFinding n (recordOf n rounds Y j) .none ≡ j .none
-  unfolding field bytes
+  unfolding field beBytes
   recorded-none =
       ap (λ x. eqb x 1) (last-byte headerSize) ∙ flag-eqb (j .none)
 
   pub recorded-decides : recordedFinding n (recordOf n rounds Y j) .decides ≡ j .decides
-  unfolding field bytes
+  unfolding field beBytes
   recorded-decides =
       let e : factorAt n + headerSize + 1 ≡ factorAt n + (headerSize + 1) = omega arith in
       ap (λ k. getD whole k 0) e ∙ last-byte (headerSize + 1)

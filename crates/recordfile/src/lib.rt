@@ -1,7 +1,7 @@
 // The record of a judged answer, as bytes.
-ghost use mathlib.Core.Path.{_≡_};
 ghost use Prim.Native.Nat.{_+_, _≤_};
 ghost use lib.ListN.{length};
+ghost use mathlib.Core.Path.{_≡_};
 ghost use Rattle.limits.specs.Limits.{mostTanks};
 ghost use Rattle.buffer.specs.Buffer.{onto, Wrote, run};
 ghost use Rattle.fields.specs.Field.{headerSize};
@@ -79,32 +79,32 @@ fn flag(b: bool) -> u8
 }
 
 // Field 10, over the front of out.
-fn write_verdict(out: &mut [u8], met: bool, unmet: u8, rounds: u8)
+fn write_verdict(met: bool, unmet: u8, rounds: u8, out: &mut [u8])
     requires { ⌜ answerAt ≤ length (now out) ⌝ }
     ensures { λ _. ⌜ now (out .exit) ≡ onto (verdictField met unmet rounds) (now (out .entry)) ⌝ }
 {
     let m = flag(met);
-    fields::write_header(out, VERDICT_TAG, VERDICT_LENGTH);
+    fields::write_header(VERDICT_TAG, VERDICT_LENGTH, out);
     out[MET_AT] = m;
     out[UNMET_AT] = unmet;
     out[ROUNDS_AT] = rounds;
 }
 
 // A row's residual and reach, over the front of that row's bytes.
-fn write_pair(out: &mut [u8], residual: i64, reach: u64)
+fn write_pair(residual: i64, reach: u64, out: &mut [u8])
     requires { ⌜ pairSize ≤ length (now out) ⌝ }
     ensures { λ _. ⌜ now (out .exit) ≡ onto (pair residual reach) (now (out .entry)) ⌝ }
 {
-    bigendian::write_i64(out, residual);
-    bigendian::write_u64(&mut out[REACH_AT..], reach);
+    bigendian::write_i64(residual, out);
+    bigendian::write_u64(reach, &mut out[REACH_AT..]);
 }
 
 // The pairs of n rows, each lent its part of out.
 fn write_pairs<'a>(
-    out: &mut [u8],
     n: usize,
     residuals: &'a [i64; MOST_TANKS],
     reaches: &'a [u64; MOST_TANKS],
+    out: &mut [u8],
 )
     requires { ⌜ (n ≤ mostTanks) × (rowsLength n ≤ length (now out)) ⌝ }
     ensures { λ _. ⌜ now (out .exit) ≡ onto (run n (pairAt (now (residuals .entry)) (now (reaches .entry)))) (now (out .entry)) ⌝ }
@@ -112,55 +112,55 @@ fn write_pairs<'a>(
     let mut i = 0;
     let mut at = 0;
     while i < n {
-        write_pair(&mut out[at..], residuals[i], reaches[i]);
+        write_pair(residuals[i], reaches[i], &mut out[at..]);
         i += 1;
         at += PAIR_SIZE;
     }
 }
 
 // Field 13, over the front of out.
-fn write_factor(out: &mut [u8], none: bool, decides: u8)
+fn write_factor(none: bool, decides: u8, out: &mut [u8])
     requires { ⌜ headerSize + factorLength ≤ length (now out) ⌝ }
     ensures { λ _. ⌜ now (out .exit) ≡ onto (factorField none decides) (now (out .entry)) ⌝ }
 {
     let m = flag(none);
-    fields::write_header(out, FACTOR_TAG, FACTOR_LENGTH);
+    fields::write_header(FACTOR_TAG, FACTOR_LENGTH, out);
     out[NONE_AT] = m;
     out[DECIDES_AT] = decides;
 }
 
 // Field 11, over the front of out: the first n figures of the answer.
-fn write_answer(out: &mut [u8], n: usize, answer: &[i32])
+fn write_answer(n: usize, answer: &[i32], out: &mut [u8])
     requires { ⌜ (n ≤ mostTanks) × ((n ≤ length (now answer)) × (headerSize + answerLength n ≤ length (now out))) ⌝ }
     ensures { λ _. ⌜ now (out .exit) ≡ onto (answerField n (now (answer .entry))) (now (out .entry)) ⌝ }
 {
     let places = record_places(n);
-    fields::write_header(out, ANSWER_TAG, places.answer_len as u16);
-    figures::write_i32s(&mut out[HEADER_SIZE..], &answer[..n]);
+    fields::write_header(ANSWER_TAG, places.answer_len as u16, out);
+    figures::write_i32s(&answer[..n], &mut out[HEADER_SIZE..]);
 }
 
 // Field 12, over the front of out.
 fn write_rows<'a>(
-    out: &mut [u8],
     n: usize,
     residuals: &'a [i64; MOST_TANKS],
     reaches: &'a [u64; MOST_TANKS],
+    out: &mut [u8],
 )
     requires { ⌜ (n ≤ mostTanks) × (headerSize + rowsLength n ≤ length (now out)) ⌝ }
     ensures { λ _. ⌜ now (out .exit) ≡ onto (rowsField n (now (residuals .entry)) (now (reaches .entry))) (now (out .entry)) ⌝ }
 {
     let places = record_places(n);
-    fields::write_header(out, ROWS_TAG, places.rows_len as u16);
-    write_pairs(&mut out[HEADER_SIZE..], n, residuals, reaches);
+    fields::write_header(ROWS_TAG, places.rows_len as u16, out);
+    write_pairs(n, residuals, reaches, &mut out[HEADER_SIZE..]);
 }
 
 // The whole record of an answer over the front of out: its first n figures, the rounds used, and its judgement. Bytes beyond it stay as they were.
 pub fn write_record(
-    out: &mut [u8],
     n: usize,
     rounds: usize,
     answer: &[i32; MOST_TANKS],
     judgement: Judgement,
+    out: &mut [u8],
 ) -> usize
     requires { ⌜ RecordFits n rounds judgement (length (now out)) ⌝ }
     ensures { λ r. ⌜ Wrote (recordOf n rounds (now (answer .entry)) judgement) 0 (now (out .entry)) r (now (out .exit)) ⌝ }
@@ -171,10 +171,10 @@ pub fn write_record(
     let end = places.end;
     let residuals = judgement.residuals;
     let reaches = judgement.reaches;
-    write_verdict(out, judgement.met, judgement.unmet as u8, rounds as u8);
-    write_answer(&mut out[ANSWER_AT..], n, answer);
-    write_rows(&mut out[rows..], n, &residuals, &reaches);
-    write_factor(&mut out[factor..], judgement.none, judgement.decides as u8);
+    write_verdict(judgement.met, judgement.unmet as u8, rounds as u8, out);
+    write_answer(n, answer, &mut out[ANSWER_AT..]);
+    write_rows(n, &residuals, &reaches, &mut out[rows..]);
+    write_factor(judgement.none, judgement.decides as u8, &mut out[factor..]);
     fields::write_end(&mut out[end..]);
     end + fields::END_SIZE
 }

@@ -1,15 +1,9 @@
--- Lines that a loop writes one after another, each of at most `limit` bytes: what a turn and the end give, once for every kind of line.
--- Assumes nothing.
-use mathlib.Core.List.{List}
+-- Lines that a loop writes one after another, each of at most `limit` bytes: what a turn and the end give, once for every kind of line. Assumes nothing.
 use Prim.Native.Nat.{ℕ, _+_, _*_, _≤_, _<_}
-use lib.ListN.{length}
-use Rattle.buffer.specs.Buffer.{run, Wrote}
+use mathlib.Core.List.{List}
+use Rattle.buffer.specs.Buffer.{run}
 use Rattle.buffer.specs.RunLaws.{Running, run-turn, run-ended}
-
--- a text was written, and it has at most `limit` bytes
-pub record WroteWithin (limit : ℕ) (text : List ℕ) (at : ℕ) (before : List ℕ) (next : ℕ) (after : List ℕ) : Type 0 where
-  pub short : length text ≤ limit
-  pub wrote : Wrote text at before next after
+use Rattle.report.specs.Text.{WroteWithin}
 
 module _ {line : ℕ → List ℕ} {limit n at : ℕ} {out₀ out : List ℕ} {i next : ℕ} (r : Running limit line n at out₀ out i next) where
   pub lines-turn : {last : ℕ} {out₁ : List ℕ} → i < n → WroteWithin limit (line i) next out last out₁ → Running limit line n at out₀ out₁ (i + 1) last

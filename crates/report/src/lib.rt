@@ -1,25 +1,21 @@
 // The printed verdict: the lines of a judged case, or of a refusal, as bytes in a buffer.
+ghost use Prim.Native.Nat.{_+_, _*_, _≤_, _<_};
+ghost use lib.IntN.{pos};
+ghost use lib.ListN.{length, getD};
+ghost use mathlib.Core.Bool.{cond};
+ghost use Rattle.limits.specs.Limits.{mostTanks, mostExponent};
+ghost use Rattle.buffer.specs.Buffer.{Room, Wrote};
+ghost use Rattle.report.specs.Text.{report, labelled, verdictLine, answerLine, rowLine, factorLine, answerLines, rowLines, verdictRoom, answerRoom, rowRoom, factorRoom, text, refusalText, TextFits};
+ghost use Rattle.report.specs.Text.{WroteWithin};
 use decimal::write_bytes;
 use decimal::write_fixed_point;
 use decimal::write_signed;
 use decimal::write_unsigned;
 use judge::Judgement;
-use limits::MOST_EXPONENT;
 use limits::MOST_TANKS;
-ghost use mathlib.Core.Bool.{cond};
-ghost use Prim.Native.Nat.{_+_, _*_, _≤_, _<_};
-ghost use lib.ListN.{length, getD};
-ghost use lib.IntN.{pos};
-ghost use Rattle.limits.specs.Limits.{mostTanks, mostExponent};
-ghost use Rattle.buffer.specs.Buffer.{Room, Wrote};
-ghost use Rattle.report.specs.Text.{report, labelled, «verdict-line», «answer-line», «row-line», «factor-line», «answer-lines», «row-lines», «verdict-room», «answer-room», «row-room», «factor-room», «text-room», text, printed, «printed-refusal»};
-ghost use Rattle.report.specs.Lines.{WroteWithin};
 
-// A buffer of this many bytes is enough for every report.
+// A buffer of this many bytes is enough for every report and every refusal.
 pub const TEXT_ROOM: usize = 800;
-
-// And for every refusal.
-pub const REFUSAL_ROOM: usize = 12;
 
 // A word and a whole number behind it.
 fn write_labelled(word: &[u8], x: u64, at: usize, out: &mut [u8]) -> usize
@@ -50,8 +46,8 @@ fn write_either<'a>(
 
 // The verdict, the first unmet row or 0, and the rounds used.
 fn write_verdict_line(met: bool, row: u64, rounds: u64, at: usize, out: &mut [u8]) -> usize
-    requires { ⌜ at + verdict-room ≤ length (now out) ⌝ }
-    ensures { λ r. ⌜ WroteWithin verdict-room (verdict-line met row rounds) at (now (out .entry)) r (now (out .exit)) ⌝ }
+    requires { ⌜ at + verdictRoom ≤ length (now out) ⌝ }
+    ensures { λ r. ⌜ WroteWithin verdictRoom (verdictLine met row rounds) at (now (out .entry)) r (now (out .exit)) ⌝ }
 {
     let after_row = write_either(met, b"met row ", b"unmet row ", row, at, out);
     let after_rounds = write_labelled(b" rounds ", rounds, after_row, out);
@@ -60,8 +56,8 @@ fn write_verdict_line(met: bool, row: u64, rounds: u64, at: usize, out: &mut [u8
 
 // A tank's answer.
 fn write_answer_line(e: usize, tank: u64, figure: i32, at: usize, out: &mut [u8]) -> usize
-    requires { ⌜ (e ≤ mostExponent) × ((tank < 10) × (at + answer-room ≤ length (now out))) ⌝ }
-    ensures { λ r. ⌜ WroteWithin answer-room (answer-line e tank figure) at (now (out .entry)) r (now (out .exit)) ⌝ }
+    requires { ⌜ (e ≤ mostExponent) × ((tank < 10) × (at + answerRoom ≤ length (now out))) ⌝ }
+    ensures { λ r. ⌜ WroteWithin answerRoom (answerLine e tank figure) at (now (out .entry)) r (now (out .exit)) ⌝ }
 {
     let after_tank = write_labelled(b"answer ", tank, at, out);
     let after_space = write_bytes(b" ", after_tank, out);
@@ -71,8 +67,8 @@ fn write_answer_line(e: usize, tank: u64, figure: i32, at: usize, out: &mut [u8]
 
 // A row's residual and reach.
 fn write_row_line(row: u64, residual: i64, reach: u64, at: usize, out: &mut [u8]) -> usize
-    requires { ⌜ (row < 10) × (at + row-room ≤ length (now out)) ⌝ }
-    ensures { λ r. ⌜ WroteWithin row-room (row-line row residual reach) at (now (out .entry)) r (now (out .exit)) ⌝ }
+    requires { ⌜ (row < 10) × (at + rowRoom ≤ length (now out)) ⌝ }
+    ensures { λ r. ⌜ WroteWithin rowRoom (rowLine row residual reach) at (now (out .entry)) r (now (out .exit)) ⌝ }
 {
     let after_row = write_labelled(b"row ", row, at, out);
     let after_word = write_bytes(b" residual ", after_row, out);
@@ -83,8 +79,8 @@ fn write_row_line(row: u64, residual: i64, reach: u64, at: usize, out: &mut [u8]
 
 // The row that decides, and whether it has a factor.
 fn write_factor_line(none: bool, row: u64, at: usize, out: &mut [u8]) -> usize
-    requires { ⌜ at + factor-room ≤ length (now out) ⌝ }
-    ensures { λ r. ⌜ WroteWithin factor-room (factor-line none row) at (now (out .entry)) r (now (out .exit)) ⌝ }
+    requires { ⌜ at + factorRoom ≤ length (now out) ⌝ }
+    ensures { λ r. ⌜ WroteWithin factorRoom (factorLine none row) at (now (out .entry)) r (now (out .exit)) ⌝ }
 {
     let after_row = write_either(none, b"factor none row ", b"factor row ", row, at, out);
     write_bytes(b"\n", after_row, out)
@@ -98,8 +94,8 @@ fn write_rows<'a>(
     at: usize,
     out: &mut [u8],
 ) -> usize
-    requires { ⌜ (n ≤ mostTanks) × (at + n * row-room ≤ length (now out)) ⌝ }
-    ensures { λ r. ⌜ WroteWithin (n * row-room) (row-lines n (λ i. getD (now (residuals .entry)) i (pos 0)) (λ i. getD (now (reaches .entry)) i 0)) at (now (out .entry)) r (now (out .exit)) ⌝ }
+    requires { ⌜ (n ≤ mostTanks) × (at + n * rowRoom ≤ length (now out)) ⌝ }
+    ensures { λ r. ⌜ WroteWithin (n * rowRoom) (rowLines n (λ i. getD (now (residuals .entry)) i (pos 0)) (λ i. getD (now (reaches .entry)) i 0)) at (now (out .entry)) r (now (out .exit)) ⌝ }
 {
     let mut i = 0;
     let mut next = at;
@@ -112,8 +108,8 @@ fn write_rows<'a>(
 
 // Every tank's answer.
 fn write_answers(n: usize, e: usize, answer: &[i32; MOST_TANKS], at: usize, out: &mut [u8]) -> usize
-    requires { ⌜ (n ≤ mostTanks) × ((e ≤ mostExponent) × (at + n * answer-room ≤ length (now out))) ⌝ }
-    ensures { λ r. ⌜ WroteWithin (n * answer-room) (answer-lines n e (λ j. getD (now (answer .entry)) j (pos 0))) at (now (out .entry)) r (now (out .exit)) ⌝ }
+    requires { ⌜ (n ≤ mostTanks) × ((e ≤ mostExponent) × (at + n * answerRoom ≤ length (now out))) ⌝ }
+    ensures { λ r. ⌜ WroteWithin (n * answerRoom) (answerLines n e (λ j. getD (now (answer .entry)) j (pos 0))) at (now (out .entry)) r (now (out .exit)) ⌝ }
 {
     let mut j = 0;
     let mut next = at;
@@ -124,8 +120,9 @@ fn write_answers(n: usize, e: usize, answer: &[i32; MOST_TANKS], at: usize, out:
     next
 }
 
-// The whole text of a judged case.
-fn write_text(
+// Prints a judged case: its verdict and rounds used, every tank's answer, every row, the factor. The text stands at the front of out, the
+// rest of out is as it was, and the text's length is returned.
+pub fn render(
     n: usize,
     e: usize,
     rounds: usize,
@@ -133,7 +130,7 @@ fn write_text(
     judgement: Judgement,
     out: &mut [u8],
 ) -> usize
-    requires { ⌜ (n ≤ mostTanks) × ((e ≤ mostExponent) × (text-room ≤ length (now out))) ⌝ }
+    requires { ⌜ TextFits n e (length (now out)) ⌝ }
     ensures { λ r. ⌜ Wrote (text (report n e rounds (now (answer .entry)) judgement)) 0 (now (out .entry)) r (now (out .exit)) ⌝ }
 {
     let residuals = judgement.residuals;
@@ -150,37 +147,11 @@ fn write_text(
     write_factor_line(judgement.none, judgement.decides as u64, after_rows, out)
 }
 
-// Prints a judged case: its verdict and rounds used, every tank's answer, every row, the factor. The text stands at the front of out, the
-// rest of out is as it was, and the text's length is returned. It is empty where n is above 8, e above 3, or out shorter than TEXT_ROOM.
-pub fn render(
-    n: usize,
-    e: usize,
-    rounds: usize,
-    answer: &[i32; MOST_TANKS],
-    judgement: Judgement,
-    out: &mut [u8],
-) -> usize
-    ensures { λ r. ⌜ Wrote (printed (length (now (out .entry))) (report n e rounds (now (answer .entry)) judgement)) 0 (now (out .entry)) r (now (out .exit)) ⌝ }
-{
-    if MOST_TANKS < n {
-        return 0;
-    }
-    if MOST_EXPONENT < e {
-        return 0;
-    }
-    if out.len() < TEXT_ROOM {
-        return 0;
-    }
-    write_text(n, e, rounds, answer, judgement, out)
-}
-
-// Prints a refusal, in the same way. The text is empty where out is shorter than REFUSAL_ROOM.
+// Prints a refusal, in the same way.
 pub fn render_refusal(number: u8, out: &mut [u8]) -> usize
-    ensures { λ r. ⌜ Wrote (printed-refusal (length (now (out .entry))) number) 0 (now (out .entry)) r (now (out .exit)) ⌝ }
+    requires { ⌜ Room (refusalText number) 0 (now out) ⌝ }
+    ensures { λ r. ⌜ Wrote (refusalText number) 0 (now (out .entry)) r (now (out .exit)) ⌝ }
 {
-    if out.len() < REFUSAL_ROOM {
-        return 0;
-    }
     let after_number = write_labelled(b"refused ", number as u64, 0, out);
     write_bytes(b"\n", after_number, out)
 }

@@ -1,17 +1,20 @@
--- What a caller may use of `rnd`. All of it rests on the laws beside the rule for halves (`rounding/Half`), and none of it on the rule. Assumes nothing.
-use mathlib.Core.Path.{_≡_, refl, sym, ap, _∙_}
-use mathlib.Core.Bool.{Bool, true, false, cond}
+-- What a caller may use of `rnd`. All of it rests on the laws beside the rule for halves, and none of it on the rule but `rnd-half`. Assumes nothing.
 use Prim.Native.Nat.{ℕ, zero, suc, _+_, _*_, _/_, _%_, _^_, _<_, _≤_}
-use native.Mathlib.Nat.{le-antisymm, mul-le-mul-left, div-add-mod', mod-lt}
-use native.Mathlib.Decide.{decLt}
-use native.Mathlib.Omega.{arith}
 use lib.Dec.{leb·suc-zero}
 use lib.IntN.{ℤ, pos, negsuc, negℤ, natAbs, _-ℤ_, _*ℤ_, *ℤ-zero, negℤ-negℤ}
 use lib.Signed.{ltZ}
+use mathlib.Core.Bool.{Bool, true, false, cond}
+use mathlib.Core.Path.{_≡_, refl, sym, ap, _∙_}
+use native.Mathlib.Decide.{decLt}
+use native.Mathlib.Nat.{le-antisymm, mul-le-mul-left, div-add-mod', mod-lt}
+use native.Mathlib.Omega.{arith}
 use Rattle.integers.specs.Ring.{negℤ-*ℤ, *ℤ-negℤ, negℤ-*ℤ-negℤ}
-use Rattle.integers.specs.Size.{natAbs-negℤ, turned, turned-near, sfits-size}
-use Rattle.rounding.specs.Half.{rounds-up, up-half, stays-half, with-half, half-carries}
+use Rattle.integers.specs.Sign.{turned}
+use Rattle.integers.specs.Size.{natAbs-negℤ, turned-near, sfits-size}
+use Rattle.rounding.specs.Half.{roundsUp, withHalf}
+use Rattle.rounding.specs.HalfLaws.{half-away, up-half, stays-half, half-carries}
 use Rattle.rounding.specs.Round.{near, rnd, Defined}
+use Rattle.rounding.specs.Scale.{multiplierScale}
 
 -- ---- of naturals: within half of the divisor
 
@@ -25,7 +28,7 @@ near-within : (a b : ℕ) → 0 < b → (2 * (b * near a b) ≤ 2 * a + b) × (2
 unfolding near
 near-within a zero h = absurd (omega arith)
 near-within a (suc b) h =
-    within a (suc b) (a / suc b) (a % suc b) (rounds-up (a / suc b) (a % suc b) (suc b)) (div-add-mod' a (suc b)) (mod-lt a h)
+    within a (suc b) (a / suc b) (a % suc b) (roundsUp (a / suc b) (a % suc b) (suc b)) (div-add-mod' a (suc b)) (mod-lt a h)
     (up-half (a / suc b) (a % suc b) (suc b)) (stays-half (a / suc b) (a % suc b) (suc b))
 
 near-le : (a b m : ℕ) → a ≤ m * b → near a b ≤ m
@@ -84,6 +87,29 @@ rnd-by-neg (negsuc a) (pos zero) =
 rnd-by-neg (negsuc a) (pos (suc b)) = sym (negℤ-negℤ (pos (near (suc a) (suc b))))
 rnd-by-neg (negsuc a) (negsuc b) = refl
 
+-- ---- "a half goes away from zero, on both sides of zero"
+
+near-half : (a b : ℕ) → 0 < b → 2 * (a % b) ≡ b → near a b ≡ a / b + 1
+unfolding near
+near-half a zero h e = absurd (omega arith)
+near-half a (suc b) h e = rw (half-away (a / suc b) (a % suc b) (suc b) e)
+
+-- zero leaves no half
+half-of-none : (b : ℕ) → 2 * (0 % suc b) ≡ suc b → ⊥
+half-of-none b e = omega (arith, div-add-mod' 0 (suc b))
+
+-- the magnitude is the next one up, with the sign of p / q
+pub rnd-half : (p q : ℤ) → 0 < natAbs q → 2 * (natAbs p % natAbs q) ≡ natAbs q
+    → rnd p q ≡ turned q (turned p (pos (natAbs p / natAbs q + 1)))
+unfolding rnd
+rnd-half p (pos zero) h e = absurd (omega arith)
+rnd-half (pos zero) (pos (suc b)) h e = absurd (half-of-none b e)
+rnd-half (pos zero) (negsuc b) h e = absurd (half-of-none b e)
+rnd-half (pos (suc a)) (pos (suc b)) h e = ap pos (near-half (suc a) (suc b) h e)
+rnd-half (pos (suc a)) (negsuc b) h e = ap (λ (m : ℕ). negℤ (pos m)) (near-half (suc a) (suc b) h e)
+rnd-half (negsuc a) (pos (suc b)) h e = ap (λ (m : ℕ). negℤ (pos m)) (near-half (suc a) (suc b) h e)
+rnd-half (negsuc a) (negsuc b) h e = ap pos (near-half (suc a) (suc b) h e) ∙ sym (negℤ-negℤ (pos (suc a / suc b + 1)))
+
 -- ---- the laws of a nearest whole number
 
 -- no larger than any whole bound on the quotient
@@ -120,7 +146,7 @@ rnd-mul (negsuc m) q h =
 
 -- ---- for code
 
-pub near-by : (a b : ℕ) → 0 < b → near a b ≡ a / b + cond (rounds-up (a / b) (a % b) b) 1 0
+pub near-by : (a b : ℕ) → 0 < b → near a b ≡ a / b + cond (roundsUp (a / b) (a % b) b) 1 0
 unfolding near
 near-by a zero h = absurd (omega arith)
 near-by a (suc b) h = refl
@@ -145,9 +171,9 @@ defined p q h k =
 
 -- ---- by the multipliers' scale, whose half is whole
 
-near-scale : (a : ℕ) → near a 16384 ≡ with-half a / 16384
+near-scale : (a : ℕ) → near a multiplierScale ≡ withHalf a / multiplierScale
 unfolding near
 near-scale a = sym (half-carries a)
 
-pub rnd-scale : (p : ℤ) → rnd p (pos 16384) ≡ cond (ltZ p (pos 0)) (negℤ (pos (with-half (natAbs p) / 16384))) (pos (with-half (natAbs p) / 16384))
-rnd-scale p = rw (← near-scale (natAbs p)) (rnd-signs p (pos 16384))
+pub rnd-scale : (p : ℤ) → rnd p (pos multiplierScale) ≡ cond (ltZ p (pos 0)) (negℤ (pos (withHalf (natAbs p) / multiplierScale))) (pos (withHalf (natAbs p) / multiplierScale))
+rnd-scale p = rw (← near-scale (natAbs p)) (rnd-signs p (pos multiplierScale))

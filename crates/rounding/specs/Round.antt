@@ -1,15 +1,16 @@
--- Rounded division: rnd(p/q) of document 01, the nearest whole number to p/q. Definitions only. Assumes nothing.
-use mathlib.Core.Bool.{cond}
+-- Definitions only.
+-- Rounded division: rnd(p/q) of document 01, the nearest whole number to p/q.
 use Prim.Native.Nat.{ℕ, zero, suc, _+_, _/_, _%_, _<_}
 use lib.IntN.{ℤ, pos, negsuc, negℤ, natAbs}
+use mathlib.Core.Bool.{cond}
 use mir.Syntax.{w64}
 use mir.Val.{SFits}
-use Rattle.rounding.specs.Half.{rounds-up}
+use Rattle.rounding.specs.Half.{roundsUp}
 
 -- of naturals: the whole quotient, or the next number. (A quotient by 0 is taken as 0; no step divides by 0.)
 unfoldable pub near : ℕ → ℕ → ℕ
 near a zero = 0
-near a (suc b) = a / suc b + cond (rounds-up (a / suc b) (a % suc b) (suc b)) 1 0
+near a (suc b) = a / suc b + cond (roundsUp (a / suc b) (a % suc b) (suc b)) 1 0
 
 -- of integers: the magnitude is rounded, and the sign is that of the quotient
 unfoldable pub rnd : ℤ → ℤ → ℤ

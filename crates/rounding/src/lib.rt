@@ -1,14 +1,15 @@
 // Rounded division of signed numbers.
-ghost use mathlib.Core.Path.{_≡_};
 ghost use Prim.Native.Nat.{_<_, _≤_, _^_};
 ghost use lib.IntN.{pos, negℤ};
-ghost use Rattle.rounding.specs.Half.{rounds-up};
+ghost use mathlib.Core.Path.{_≡_};
+ghost use Rattle.rounding.specs.Half.{roundsUp};
 ghost use Rattle.rounding.specs.Round.{near, rnd, Defined};
+ghost use Rattle.rounding.specs.Scale.{multiplierScale};
 
 // The rule for halves, by what is left of the divisor, so that no double wraps.
 fn rounds_up(quotient: u64, remainder: u64, divisor: u64) -> bool
     requires { ⌜ remainder < divisor ⌝ }
-    ensures { λ r. ⌜ r ≡ rounds-up quotient remainder divisor ⌝ }
+    ensures { λ r. ⌜ r ≡ roundsUp quotient remainder divisor ⌝ }
 {
     divisor - remainder <= remainder
 }
@@ -45,10 +46,15 @@ pub fn rounded_quotient(p: i64, q: i64) -> i64
     }
 }
 
-// rnd(p / 16384), the scale of the multipliers, for any p: half of it is added to the magnitude, and no remainder has to be looked at.
+// The scale of the multipliers, and its half.
+pub const MULTIPLIER_SCALE: u64 = 16384;
+
+const HALF_SCALE: u64 = MULTIPLIER_SCALE / 2;
+
+// rnd(p / 16,384), by the scale of the multipliers, for any p: half of it is added to the magnitude, and no remainder has to be looked at.
 pub fn rounded_by_scale(p: i64) -> i64
-    ensures { λ r. ⌜ r ≡ rnd p (pos 16384) ⌝ }
+    ensures { λ r. ⌜ r ≡ rnd p (pos multiplierScale) ⌝ }
 {
-    let m = (integers::magnitude(p) + 8192) / 16384;
+    let m = (integers::magnitude(p) + HALF_SCALE) / MULTIPLIER_SCALE;
     if p < 0 { negated(m) } else { m as i64 }
 }

@@ -1,25 +1,26 @@
--- Blocks of rows: their parts, their rows, and how many figures they have. Definitions only.
+-- Definitions only.
+-- Blocks of rows: their parts, their rows, and how many figures they have.
 use Prim.Native.Nat.{ℕ, zero, suc, _*_, _≤_}
+use lib.IntN.{ℤ}
+use lib.ListN.{length, take, drop}
 use mathlib.Core.List.{List, [], _∷_, _++_}
 use mathlib.Core.Path.{_≡_}
-use lib.ListN.{length, take, drop}
-use lib.IntN.{ℤ}
 use Rattle.limits.specs.Limits.{mostTanks}
 use Rattle.buffer.specs.Buffer.{onto}
 
 -- a block of rows: document 01's A, E, b and f, row after row. A row is a block of one
 pub record Block : Type 0 where
-  pub coefficients : List ℤ
-  pub tolerances : List ℕ
-  pub right-sides : List ℤ
-  pub right-tolerances : List ℕ
+  pub A : List ℤ
+  pub E : List ℕ
+  pub b : List ℤ
+  pub f : List ℕ
 
 abbrev pub block : List ℤ → List ℕ → List ℤ → List ℕ → Block
-block a t b f = record { coefficients = a; tolerances = t; right-sides = b; right-tolerances = f }
+block A E b f = record { A = A; E = E; b = b; f = f }
 
 -- the same done to each list: with k to the coefficients and tolerances, with m to the right sides and theirs
 abbrev pub each : ((X : Type 0) → ℕ → List X → List X) → ℕ → ℕ → Block → Block
-each g k m r = block (g ℤ k (r .coefficients)) (g ℕ k (r .tolerances)) (g ℤ m (r .right-sides)) (g ℕ m (r .right-tolerances))
+each g k m r = block (g ℤ k (r .A)) (g ℕ k (r .E)) (g ℤ m (r .b)) (g ℕ m (r .f))
 
 -- the first figures, and those behind them
 abbrev pub front : ℕ → ℕ → Block → Block
@@ -32,10 +33,10 @@ behind k m r = each (λ X. drop) k m r
 abbrev pub paired : ((X : Type 0) → List X → List X → List X) → Block → Block → Block
 paired g r s =
     block
-    (g ℤ (r .coefficients) (s .coefficients))
-    (g ℕ (r .tolerances) (s .tolerances))
-    (g ℤ (r .right-sides) (s .right-sides))
-    (g ℕ (r .right-tolerances) (s .right-tolerances))
+    (g ℤ (r .A) (s .A))
+    (g ℕ (r .E) (s .E))
+    (g ℤ (r .b) (s .b))
+    (g ℕ (r .f) (s .f))
 
 abbrev pub stacked : Block → Block → Block
 stacked r s = paired (λ X. _++_) r s
@@ -64,11 +65,11 @@ together (r ∷ rs) = stacked r (together rs)
 -- ---- how many figures
 
 -- the four lists' lengths, each in the relation R to a number
-pub record Lengths (R : ℕ → ℕ → Type 0) (r : Block) (a t b f : ℕ) : Type 0 where
-  pub la : R (length (r .coefficients)) a
-  pub lt : R (length (r .tolerances)) t
-  pub lb : R (length (r .right-sides)) b
-  pub lf : R (length (r .right-tolerances)) f
+pub record Lengths (R : ℕ → ℕ → Type 0) (r : Block) (kA kE kb kf : ℕ) : Type 0 where
+  pub lA : R (length (r .A)) kA
+  pub lE : R (length (r .E)) kE
+  pub lb : R (length (r .b)) kb
+  pub lf : R (length (r .f)) kf
 
 -- k coefficients and tolerances, m right sides and their tolerances
 abbrev pub Counts : ℕ → ℕ → Block → Type 0
@@ -81,7 +82,7 @@ HasRoom k m r = Lengths (λ x y. y ≤ x) r k k m m
 -- as many as another block
 abbrev pub SameLengths : Block → Block → Type 0
 SameLengths r s =
-    Lengths (λ x y. x ≡ y) r (length (s .coefficients)) (length (s .tolerances)) (length (s .right-sides)) (length (s .right-tolerances))
+    Lengths (λ x y. x ≡ y) r (length (s .A)) (length (s .E)) (length (s .b)) (length (s .f))
 
 -- lists of one row's figures
 pub record RowLists (n : ℕ) (r : Block) : Type 0 where

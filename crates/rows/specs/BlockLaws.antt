@@ -1,13 +1,13 @@
 -- Blocks of rows: one over another's front, one by its rows, and the loop over the rows of lists that hold them.
 -- A law of blocks is a law of one list, which `search` and `simp` put to use at each of a block's four.
 -- Assumes nothing.
-use mathlib.Core.Path.{_≡_, refl, sym, ap, _∙_}
-use mathlib.Core.List.{List, [], _∷_, _++_, append-assoc, append-nil}
 use Prim.Native.Nat.{ℕ, zero, suc, _+_, _*_, _≤_, _<_}
-use native.Mathlib.Omega.{arith}
-use native.Mathlib.Nat.{suc-mul, zero-mul, mul-le-mul-right}
 use lib.ListN.{length, getD}
 use lib.Seq.{drop-drop}
+use mathlib.Core.List.{List, [], _∷_, _++_, append-assoc, append-nil}
+use mathlib.Core.Path.{_≡_, refl, sym, ap, _∙_}
+use native.Mathlib.Nat.{suc-mul, zero-mul, mul-le-mul-right}
+use native.Mathlib.Omega.{arith}
 use Rattle.buffer.specs.Laws.{take-onto, holds}
 use Rattle.rows.specs.Block.{Block, Counts, HasRoom, RowsRoom, front, behind, stacked, over, rowIn, split, together}
 

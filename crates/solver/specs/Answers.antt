@@ -1,31 +1,34 @@
 -- What holds of every solution: its trial is judged and within its limits, its rounds are those that were made, and refusal 8 has its condition.
 -- Assumes nothing.
-use mathlib.Core.Path.{_≡_, refl, sym, ap, _∙_}
-use mathlib.Core.Bool.{Bool, true, false, cond}
-use mathlib.Core.List.{List}
 use Prim.Native.Nat.{ℕ, zero, suc, _≤_}
-use native.Mathlib.Omega.{arith}
 use borrow.Author.Tests.{eqb-true, eq-eqb}
 use lib.Dec.{eqb}
 use lib.IntN.{ℤ}
-use Rattle.judge.specs.declared.Standing.{Standing}
-use Rattle.judge.specs.System.{System, trial}
+use lib.ListN.{length}
+use mathlib.Core.Bool.{Bool, true, false, cond}
+use mathlib.Core.List.{List}
+use mathlib.Core.Path.{_≡_, refl, sym, ap, _∙_}
+use native.Mathlib.Omega.{arith}
+use Rattle.limits.specs.Limits.{mostTanks}
 use Rattle.judge.specs.Laws.{met-is}
+use Rattle.judge.specs.System.{System, trial}
+use Rattle.judge.specs.declared.Measurement.{Measurement}
+use Rattle.elimination.specs.Claims.{ZeroColumn}
+use Rattle.elimination.specs.Outcome.{outcome}
+use Rattle.elimination.specs.OutcomeLaws.{zero-pivot-column, column-zero-pivot}
+use Rattle.elimination.specs.Steps.{eliminated}
 use Rattle.elimination.specs.declared.Elimination.{Elimination}
 use Rattle.elimination.specs.declared.Elimination.the-variants.{Complete, ZeroPivot as Stopped}
-use Rattle.elimination.specs.Steps.{eliminated}
-use Rattle.elimination.specs.Outcome.{outcome}
-use Rattle.elimination.specs.Claims.{ZeroColumn}
-use Rattle.elimination.specs.OutcomeLaws.{zero-pivot-column, column-zero-pivot}
+use Rattle.outcome.specs.declared.Refusal.the-variants.{ZeroPivot, OutsideRange}
+use Rattle.outcome.specs.declared.Status.the-variants.{Accepted, Refused as RefusedBy}
+use Rattle.solver.specs.Claims.{KeptAnswer, Rounds, Advanced, ZeroPivotFound}
+use Rattle.solver.specs.Laws.{round-cases, refined-places}
+use Rattle.solver.specs.Limits.{Measured}
+use Rattle.solver.specs.Outcomes.{start-measured, solution-refused}
+use Rattle.solver.specs.Refinement.{start, measuredProgress, refusedProgress, ended, refined}
+use Rattle.solver.specs.Solution.{keptSolution, answeredSolution, byElimination, solution}
 use Rattle.solver.specs.declared.Progress.{Progress}
 use Rattle.solver.specs.declared.Solution.{Solution}
-use Rattle.solver.specs.declared.Status.the-variants.{Answered, ZeroPivot, OutsideRange}
-use Rattle.solver.specs.Refinement.{start, measured, refused, ended, refined}
-use Rattle.solver.specs.Solution.{kept, answered, by-elimination, solution}
-use Rattle.solver.specs.Limits.{Measured}
-use Rattle.solver.specs.Claims.{Answer, Rounds, Advanced, Refused}
-use Rattle.solver.specs.Laws.{round-cases}
-use Rattle.solver.specs.Outcomes.{start-measured, solution-refused}
 
 -- ---- rounds one after another
 
@@ -34,20 +37,20 @@ record Reached (s : System) (D : ℕ) (p : Progress) (m : ℕ) (q : Progress) : 
   advanced : Advanced p m q
 
 module _ (w : List (List ℤ)) (o : List ℕ) (s : System) (D : ℕ) where
-  refused-reached : (p : Progress) (m : ℕ) → Measured s D p → Reached s D p (suc m) (refused p)
+  refused-reached : (p : Progress) (m : ℕ) → Measured s D p → Reached s D p (suc m) (refusedProgress p)
   refused-reached p m h =
       record {
-        measured-is = record { figures = h .figures; standing-is = h .standing-is };
+        measured-is = record { figures = h .figures; measurement-is = h .measurement-is };
         advanced = record { more = omega arith; few = omega arith; some = λ e l. absurd (let z : _≡_ {A = ℕ} 0 1 = cc in omega arith); early = λ e l. absurd (let z : _≡_ {A = ℕ} 0 1 = cc in omega arith) };
       }
 
   -- the next trial, and what follows it unless it is met
   next-reached : (p : Progress) (m : ℕ) (r : Progress) → Measured s D r → r .rounds ≡ suc (p .rounds) → Reached s D r m (refined w o s D m r)
-      → (t : Bool) → eqb (r .standing .unmet) 0 ≡ t → Reached s D p (suc m) (cond t r (refined w o s D m r))
+      → (t : Bool) → eqb (r .measurement .unmet) 0 ≡ t → Reached s D p (suc m) (cond t r (refined w o s D m r))
   next-reached p m r j n h true e =
       record {
         measured-is = j;
-        advanced = record { more = omega arith; few = omega arith; some = λ _ l. omega arith; early = λ _ l. eqb-true (r .standing .unmet) 0 e };
+        advanced = record { more = omega arith; few = omega arith; some = λ _ l. omega arith; early = λ _ l. eqb-true (r .measurement .unmet) 0 e };
       }
   next-reached p m r j n h false e =
       let a = h .advanced in
@@ -63,8 +66,8 @@ module _ (w : List (List ℤ)) (o : List ℕ) (s : System) (D : ℕ) where
   reached (suc m) p h =
       round-cases w o s D (λ r. Reached s D p (suc m) (cond (ended r) r (refined w o s D m r))) p h
       (λ Y k.
-      let j : Measured s D (measured s D (suc (p .rounds)) Y) = record { figures = k; standing-is = refl } in
-      next-reached p m (measured s D (suc (p .rounds)) Y) j refl (reached m (measured s D (suc (p .rounds)) Y) j) (eqb (measured s D (suc (p .rounds)) Y .standing .unmet) 0) refl)
+      let j : Measured s D (measuredProgress s D (suc (p .rounds)) Y) = record { figures = k; measurement-is = refl } in
+      next-reached p m (measuredProgress s D (suc (p .rounds)) Y) j refl (reached m (measuredProgress s D (suc (p .rounds)) Y) j) (eqb (measuredProgress s D (suc (p .rounds)) Y .measurement .unmet) 0) refl)
       (refused-reached p m h)
 
   pub refined-measured : (m : ℕ) (p q : Progress) → Measured s D p → q ≡ refined w o s D m p → Measured s D q
@@ -74,57 +77,64 @@ module _ (w : List (List ℤ)) (o : List ℕ) (s : System) (D : ℕ) where
 
 module _ (s : System) (D K : ℕ) where
   abbrev last : Progress
-  last = refined (eliminated (s .n) (s .rows .coefficients) .rows) (eliminated (s .n) (s .rows .coefficients) .order) s D K (start s D)
+  last = refined (eliminated (s .n) (s .rows .A) .working) (eliminated (s .n) (s .rows .A) .order) s D K (start s D)
 
   last-reached : Reached s D (start s D) K last
-  last-reached = reached (eliminated (s .n) (s .rows .coefficients) .rows) (eliminated (s .n) (s .rows .coefficients) .order) s D K (start s D) (start-measured s D (start s D) refl)
+  last-reached = reached (eliminated (s .n) (s .rows .A) .working) (eliminated (s .n) (s .rows .A) .order) s D K (start s D) (start-measured s D (start s D) refl)
 
   -- by the elimination's outcome
-  cases : (P : Solution → Type 0) → P (answered s D last) → ((k : ℕ) → outcome (s .n) (eliminated (s .n) (s .rows .coefficients) .steps) ≡ Stopped k → P (kept s D ZeroPivot (start s D))) → P (solution s D K)
+  cases : (P : Solution → Type 0) → P (answeredSolution s D last) → ((k : ℕ) → outcome (s .n) (eliminated (s .n) (s .rows .A) .steps) ≡ Stopped k → P (keptSolution s D (RefusedBy ZeroPivot) (start s D))) → P (solution s D K)
   unfolding solution
-  cases P a b = go (outcome (s .n) (eliminated (s .n) (s .rows .coefficients) .steps)) refl
+  cases P a b = go (outcome (s .n) (eliminated (s .n) (s .rows .A) .steps)) refl
     where
-      go : (e : Elimination) → outcome (s .n) (eliminated (s .n) (s .rows .coefficients) .steps) ≡ e → P (by-elimination e (answered s D last) (kept s D ZeroPivot (start s D)))
+      go : (e : Elimination) → outcome (s .n) (eliminated (s .n) (s .rows .A) .steps) ≡ e → P (byElimination e (answeredSolution s D last) (keptSolution s D (RefusedBy ZeroPivot) (start s D)))
       go Complete q = a
       go (Stopped k) q = b k q
 
   -- the kept trial, also after a refusal
-  pub answer : Answer s D (solution s D K)
+  pub answer : KeptAnswer s D (solution s D K)
   answer =
-      cases (Answer s D)
+      cases (KeptAnswer s D)
       (record { figures = last-reached .measured-is .figures; judgement-is = refl })
       (λ k e. record { figures = start-measured s D (start s D) refl .figures; judgement-is = refl })
 
+  -- it has a place for each tank that a case may have
+  pub trial-places : length (solution s D K .trial) ≡ mostTanks
+  trial-places =
+      cases (λ (r : Solution). length (r .trial) ≡ mostTanks)
+      (refined-places (eliminated (s .n) (s .rows .A) .working) (eliminated (s .n) (s .rows .A) .order) s D K (start s D))
+      (λ k e. refl)
+
   -- a last trial with no unmet row is judged as met
-  met : last .standing .unmet ≡ 0 → answered s D last .judgement .met ≡ true
+  met : last .measurement .unmet ≡ 0 → answeredSolution s D last .judgement .met ≡ true
   met e =
       met-is s (trial (s .n) D (last .trial))
-      ∙ eq-eqb _ _ (sym (ap (λ (m : Standing). m .unmet) (last-reached .measured-is .standing-is)) ∙ e)
+      ∙ eq-eqb _ _ (sym (ap (λ (m : Measurement). m .unmet) (last-reached .measured-is .measurement-is)) ∙ e)
 
-  within-answered : (t : Bool) → cond t Answered OutsideRange ≡ Answered → t ≡ true
-  within-answered true e = refl
-  within-answered false e = absurd (let z : _≡_ {A = ℕ} 0 1 = cc in omega arith)
+  within-accepted : (t : Bool) → cond t Accepted (RefusedBy OutsideRange) ≡ Accepted → t ≡ true
+  within-accepted true e = refl
+  within-accepted false e = absurd (let z : _≡_ {A = ℕ} 0 1 = cc in omega arith)
 
-  pub rounds : 1 ≤ K → solution s D K .status ≡ Answered → Rounds K (solution s D K)
+  pub rounds : 1 ≤ K → solution s D K .status ≡ Accepted → Rounds K (solution s D K)
   rounds h =
-      cases (λ r. r .status ≡ Answered → Rounds K r)
+      cases (λ r. r .status ≡ Accepted → Rounds K r)
       (λ e.
       let a = last-reached .advanced in
-      let t = within-answered (last .within) e in
+      let t = within-accepted (last .within) e in
       record { some = a .some t (omega arith); few = omega arith; early = λ l. met (a .early t (omega arith)) })
       (λ k q e. absurd (let z : _≡_ {A = ℕ} 0 1 = cc in omega arith))
 
   -- refusal 8 exactly if at some step every candidate for the pivot is zero
-  pub zero-pivot-refused : (k : ℕ) → ZeroColumn (s .n) (s .rows .coefficients) k → solution s D K .status ≡ ZeroPivot
+  pub zero-pivot-refused : (k : ℕ) → ZeroColumn (s .n) (s .rows .A) k → solution s D K .status ≡ RefusedBy ZeroPivot
   zero-pivot-refused k c =
-      ap (λ (r : Solution). r .status) (sym (solution-refused s D K k (start s D) refl (column-zero-pivot (s .n) (s .rows .coefficients) k c)))
+      ap (λ (r : Solution). r .status) (sym (solution-refused s D K k (start s D) refl (column-zero-pivot (s .n) (s .rows .A) k c)))
 
-  status-not : (t : Bool) → cond t Answered OutsideRange ≡ ZeroPivot → ⊥
+  status-not : (t : Bool) → cond t Accepted (RefusedBy OutsideRange) ≡ RefusedBy ZeroPivot → ⊥
   status-not true e = let z : _≡_ {A = ℕ} 0 1 = cc in omega arith
   status-not false e = let z : _≡_ {A = ℕ} 0 1 = cc in omega arith
 
-  pub refused-zero-pivot : solution s D K .status ≡ ZeroPivot → Refused s
+  pub refused-zero-pivot : solution s D K .status ≡ RefusedBy ZeroPivot → ZeroPivotFound s
   refused-zero-pivot =
-      cases (λ r. r .status ≡ ZeroPivot → Refused s)
+      cases (λ r. r .status ≡ RefusedBy ZeroPivot → ZeroPivotFound s)
       (λ e. absurd (status-not (last .within) e))
-      (λ k q e. record { step = k; column = zero-pivot-column (s .n) (s .rows .coefficients) k q })
+      (λ k q e. record { step = k; column = zero-pivot-column (s .n) (s .rows .A) k q })

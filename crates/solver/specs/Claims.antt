@@ -1,18 +1,19 @@
--- What is claimed of every solution, in the words of its laws. Definitions only. Assumes nothing.
-use mathlib.Core.Path.{_≡_}
-use mathlib.Core.Bool.{true}
+-- Definitions only.
+-- What is claimed of every solution, in the words of its laws.
 use Prim.Native.Nat.{ℕ, _+_, _<_, _≤_}
+use mathlib.Core.Bool.{true}
+use mathlib.Core.Path.{_≡_}
 use Rattle.integers.specs.Tables.{Within}
-use Rattle.elimination.specs.Claims.{ZeroColumn}
-use Rattle.judge.specs.System.{System, trial}
 use Rattle.judge.specs.Judgement.{judgement}
+use Rattle.judge.specs.System.{System, trial}
+use Rattle.elimination.specs.Claims.{ZeroColumn}
+use Rattle.solver.specs.Refinement.{figureLimit}
 use Rattle.solver.specs.declared.Progress.{Progress}
 use Rattle.solver.specs.declared.Solution.{Solution}
-use Rattle.solver.specs.Refinement.{figure-limit}
 
 -- the kept trial is within ±10,000,000, and the judgement beside it is its own: the same as for a trial that a case brings
-pub record Answer (s : System) (D : ℕ) (r : Solution) : Type 0 where
-  pub figures : Within figure-limit (r .trial)
+pub record KeptAnswer (s : System) (D : ℕ) (r : Solution) : Type 0 where
+  pub figures : Within figureLimit (r .trial)
   pub judgement-is : r .judgement ≡ judgement s (trial (s .n) D (r .trial))
 
 -- rounds used are 1 to K, and where they are fewer than K the answer is met, by the judge's verdict
@@ -26,9 +27,9 @@ pub record Advanced (p : Progress) (m : ℕ) (q : Progress) : Type 0 where
   pub more : p .rounds ≤ q .rounds
   pub few : q .rounds ≤ p .rounds + m
   pub some : q .within ≡ true → 0 < m → p .rounds < q .rounds
-  pub early : q .within ≡ true → q .rounds < p .rounds + m → q .standing .unmet ≡ 0
+  pub early : q .within ≡ true → q .rounds < p .rounds + m → q .measurement .unmet ≡ 0
 
 -- the step, counted from 0, at which every candidate for the pivot is zero
-pub record Refused (s : System) : Type 0 where
+pub record ZeroPivotFound (s : System) : Type 0 where
   pub step : ℕ
-  pub column : ZeroColumn (s .n) (s .rows .coefficients) step
+  pub column : ZeroColumn (s .n) (s .rows .A) step

@@ -6,3 +6,5 @@ pub mod Sizes
 pub mod Laws
 pub mod Outcomes
 pub mod Answers
+pub mod SameFigures
+pub mod Ranges

@@ -1,15 +1,16 @@
--- Refinement over one elimination: document 01's "The steps", from "Y starts at zero" on. `w` holds the eliminated rows and `o` their order.
--- Rows and tanks are counted from 0. Definitions only. Assumes nothing.
-use mathlib.Core.Bool.{Bool, true, false, cond, not, _||_}
-use mathlib.Core.List.{List}
+-- Definitions only.
+-- Refinement over one elimination: document 01's "The steps", from "Y starts at zero" on. `w` is the working matrix W as the elimination leaves it, and `o` the order of its rows.
+-- Rows and tanks are counted from 0.
 use Prim.Native.Nat.{ℕ, zero, suc, _+_}
 use lib.Dec.{leb, eqb}
-use lib.ListN.{getD, set, replicate}
 use lib.IntN.{ℤ, pos, natAbs, _+ℤ_}
+use lib.ListN.{getD, set, replicate}
+use mathlib.Core.Bool.{Bool, true, false, cond, not, _||_}
+use mathlib.Core.List.{List}
 use Rattle.limits.specs.Limits.{mostTanks, trialLimit}
 use Rattle.integers.specs.Tables.{filled}
+use Rattle.judge.specs.Judgement.{residualVector, measurement}
 use Rattle.judge.specs.System.{System, Trial, trial}
-use Rattle.judge.specs.Judgement.{residuals, standing}
 use Rattle.substitution.specs.Passes.{Corrections, forward, backward}
 use Rattle.solver.specs.declared.Progress.{Progress}
 
@@ -20,8 +21,8 @@ abbrev pub permuted : ℕ → List ℕ → List ℤ → List ℤ
 permuted n o R = filled mostTanks n (pos 0) (λ i. getD R (getD o i 0) (pos 0))
 
 -- "The residual of each row is R = D × b − sum of A × Y. Put the residuals in the elimination's row order as z."
-abbrev pub ordered : List ℕ → System → Trial → List ℤ
-ordered o s t = permuted (s .n) o (residuals s t)
+abbrev pub orderedResiduals : List ℕ → System → Trial → List ℤ
+orderedResiduals o s t = permuted (s .n) o (residualVector s t)
 
 -- from the top, and then from the bottom
 abbrev pub substituted : List (List ℤ) → List ℤ → ℕ → Corrections
@@ -30,11 +31,11 @@ substituted w z n = backward w (forward w z n) n
 -- ---- "Then Y gains d, tank 1 first, each limit checked in turn."
 
 -- "trial figure Y: −10,000,000 to 10,000,000"
-abbrev pub figure-limit : ℕ
-figure-limit = trialLimit
+abbrev pub figureLimit : ℕ
+figureLimit = trialLimit
 
-abbrev pub gain : List ℤ → List ℤ → ℕ → ℤ
-gain Y d j = getD Y j (pos 0) +ℤ getD d j (pos 0)
+abbrev pub correctedFigure : List ℤ → List ℤ → ℕ → ℤ
+correctedFigure Y d j = getD Y j (pos 0) +ℤ getD d j (pos 0)
 
 -- a trial with its corrections, and whether every figure of it is within its limit
 pub record Update : Type 0 where
@@ -45,48 +46,48 @@ abbrev pub update : Bool → List ℤ → Update
 update b Y = record { within = b; trial = Y }
 
 -- m figures from tank j on: the first that is outside its limit ends the update
-unfoldable pub gained-from : List ℤ → ℕ → ℕ → List ℤ → Update
-gained-from d j zero Y = update true Y
-gained-from d j (suc m) Y =
-    cond (leb (natAbs (gain Y d j)) figure-limit)
-    (gained-from d (j + 1) m (set Y j (gain Y d j)))
+unfoldable pub correctedFrom : List ℤ → ℕ → ℕ → List ℤ → Update
+correctedFrom d j zero Y = update true Y
+correctedFrom d j (suc m) Y =
+    cond (leb (natAbs (correctedFigure Y d j)) figureLimit)
+    (correctedFrom d (j + 1) m (set Y j (correctedFigure Y d j)))
     (update false Y)
 
 -- where a correction is outside its limit, no figure gains anything
-abbrev pub gained : ℕ → List ℤ → Corrections → Update
-gained n Y d = cond (d .within) (gained-from (d .values) 0 n Y) (update false Y)
+abbrev pub corrected : ℕ → List ℤ → Corrections → Update
+corrected n Y d = cond (d .within) (correctedFrom (d .values) 0 n Y) (update false Y)
 
 -- the next trial, not within its limits where the steps reach refusal 9
 unfoldable pub updated : List (List ℤ) → List ℕ → System → ℕ → List ℤ → Update
-updated w o s D Y = gained (s .n) Y (substituted w (ordered o s (trial (s .n) D Y)) (s .n))
+updated w o s D Y = corrected (s .n) Y (substituted w (orderedResiduals o s (trial (s .n) D Y)) (s .n))
 
 -- ---- rounds
 
 -- a trial after k rounds, with what it leaves of each row: "The new Y is judged", and the row that decides is looked for in the kept one alone
-abbrev pub measured : System → ℕ → ℕ → List ℤ → Progress
-measured s D k Y = record { within = true; rounds = k; trial = Y; standing = standing s (trial (s .n) D Y) }
+abbrev pub measuredProgress : System → ℕ → ℕ → List ℤ → Progress
+measuredProgress s D k Y = record { within = true; rounds = k; trial = Y; measurement = measurement s (trial (s .n) D Y) }
 
 -- "Y starts at zero."
 abbrev pub start : System → ℕ → Progress
-start s D = measured s D 0 (replicate mostTanks (pos 0))
+start s D = measuredProgress s D 0 (replicate mostTanks (pos 0))
 
 -- refusal 9: what stood before the round stays, with the mark
-abbrev pub refused : Progress → Progress
-refused p = record { within = false; rounds = p .rounds; trial = p .trial; standing = p .standing }
+abbrev pub refusedProgress : Progress → Progress
+refusedProgress p = record { within = false; rounds = p .rounds; trial = p .trial; measurement = p .measurement }
 
-abbrev pub advanced : System → ℕ → Progress → Update → Progress
-advanced s D p u = cond (u .within) (measured s D (suc (p .rounds)) (u .trial)) (refused p)
+abbrev pub afterUpdate : System → ℕ → Progress → Update → Progress
+afterUpdate s D p u = cond (u .within) (measuredProgress s D (suc (p .rounds)) (u .trial)) (refusedProgress p)
 
 -- "A round", document 01's term: from the residuals of the trial to what the next leaves
 unfoldable pub round : List (List ℤ) → List ℕ → System → ℕ → Progress → Progress
-round w o s D p = advanced s D p (updated w o s D (p .trial))
+round w o s D p = afterUpdate s D p (updated w o s D (p .trial))
 
 -- "The first that is met ends the work": the first with no unmet row; and so does a refusal
-abbrev pub ended-by : Bool → ℕ → Bool
-ended-by within unmet = not within || eqb unmet 0
+abbrev pub endedBy : Bool → ℕ → Bool
+endedBy within unmet = not within || eqb unmet 0
 
 abbrev pub ended : Progress → Bool
-ended p = ended-by (p .within) (p .standing .unmet)
+ended p = endedBy (p .within) (p .measurement .unmet)
 
 -- at most m rounds more: "after round K the last trial stands"
 unfoldable pub refined : List (List ℤ) → List ℕ → System → ℕ → ℕ → Progress → Progress

@@ -1,43 +1,56 @@
--- The answer of a system, or the refusal: document 01's "The steps" as a whole. Definitions only. Assumes nothing.
-use mathlib.Core.Bool.{cond}
-use mathlib.Core.List.{List}
+-- Definitions only.
+-- The answer of a system, or the refusal: document 01's "The steps" as a whole.
 use Prim.Native.Nat.{ℕ}
 use lib.IntN.{ℤ}
-use Rattle.judge.specs.System.{System, trial}
+use mathlib.Core.Bool.{cond}
+use mathlib.Core.List.{List}
+use mathlib.Core.Path.{_≡_}
 use Rattle.judge.specs.Judgement.{judgement}
+use Rattle.judge.specs.System.{System, trial}
+use Rattle.elimination.specs.Outcome.{outcome}
+use Rattle.elimination.specs.Steps.{Run, eliminated}
 use Rattle.elimination.specs.declared.Elimination.{Elimination}
 use Rattle.elimination.specs.declared.Elimination.the-variants.{Complete, ZeroPivot as Stopped}
-use Rattle.elimination.specs.Steps.{Run, eliminated}
-use Rattle.elimination.specs.Outcome.{outcome}
+use Rattle.outcome.specs.Outcome.{statusNumber}
+use Rattle.outcome.specs.declared.Refusal.the-variants.{ZeroPivot, OutsideRange}
+use Rattle.outcome.specs.declared.Status.{Status}
+use Rattle.outcome.specs.declared.Status.the-variants.{Accepted, Refused}
+use Rattle.solver.specs.Refinement.{start, refined}
 use Rattle.solver.specs.declared.Progress.{Progress}
 use Rattle.solver.specs.declared.Solution.{Solution}
-use Rattle.solver.specs.declared.Status.{Status}
-use Rattle.solver.specs.declared.Status.the-variants.{Answered, ZeroPivot, OutsideRange}
-use Rattle.solver.specs.Refinement.{start, refined}
 
 -- the trial Y after k rounds, judged
-abbrev pub judged : System → ℕ → Status → ℕ → List ℤ → Solution
-judged s D t k Y = record { status = t; rounds = k; trial = Y; judgement = judgement s (trial (s .n) D Y) }
+abbrev pub judgedTrial : System → ℕ → Status → ℕ → List ℤ → Solution
+judgedTrial s D t k Y = record { status = t; rounds = k; trial = Y; judgement = judgement s (trial (s .n) D Y) }
 
 -- Which trial is kept is chosen here alone: the last, be it the first that is met or the one after round K.
-abbrev pub kept : System → ℕ → Status → Progress → Solution
-kept s D t p = judged s D t (p .rounds) (p .trial)
+abbrev pub keptSolution : System → ℕ → Status → Progress → Solution
+keptSolution s D t p = judgedTrial s D t (p .rounds) (p .trial)
 
-abbrev pub answered : System → ℕ → Progress → Solution
-answered s D p = kept s D (cond (p .within) Answered OutsideRange) p
+abbrev pub answeredSolution : System → ℕ → Progress → Solution
+answeredSolution s D p = keptSolution s D (cond (p .within) Accepted (Refused OutsideRange)) p
 
 -- the rounds are made where the elimination is complete; refusal 8 comes where it is not
-abbrev pub by-elimination : Elimination → Solution → Solution → Solution
-by-elimination Complete a b = a
-by-elimination (Stopped k) a b = b
+abbrev pub byElimination : Elimination → Solution → Solution → Solution
+byElimination Complete a b = a
+byElimination (Stopped k) a b = b
 
 -- over one elimination, which others may share
 abbrev pub solved : Run → System → ℕ → ℕ → Solution
 solved r s D K =
-    by-elimination (outcome (s .n) (r .steps))
-    (answered s D (refined (r .rows) (r .order) s D K (start s D)))
-    (kept s D ZeroPivot (start s D))
+    byElimination (outcome (s .n) (r .steps))
+    (answeredSolution s D (refined (r .working) (r .order) s D K (start s D)))
+    (keptSolution s D (Refused ZeroPivot) (start s D))
 
 -- the solution of a system over the scale D, in at most K rounds
 unfoldable pub solution : System → ℕ → ℕ → Solution
-solution s D K = solved (eliminated (s .n) (s .rows .coefficients)) s D K
+solution s D K = solved (eliminated (s .n) (s .rows .A)) s D K
+
+-- ---- what is promised
+
+-- r is the solution x: the status by the paper's number, the rest as it is
+pub record SolutionIs (r x : Solution) : Type 0 where
+  pub number : statusNumber (r .status) ≡ statusNumber (x .status)
+  pub rounds : r .rounds ≡ x .rounds
+  pub trial : r .trial ≡ x .trial
+  pub judgement : r .judgement ≡ x .judgement

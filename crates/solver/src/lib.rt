@@ -1,9 +1,19 @@
 // The answer of a system of linear equations: one elimination, then rounds of refinement, each trial measured, and the kept one judged.
+ghost use Prim.Native.Nat.{ℕ, _≤_};
+ghost use lib.IntN.{ℤ};
+ghost use mathlib.Core.List.{List};
+ghost use mathlib.Core.Path.{_≡_};
+ghost use Rattle.limits.specs.Limits.{mostTanks};
+ghost use Rattle.judge.specs.System.{System, system};
+ghost use Rattle.elimination.specs.Claims.{Permutation};
+ghost use Rattle.solver.specs.Limits.{Limits, Ranges, Measured, FiguresCorrectable, Updatable, Ready, Startable};
+ghost use Rattle.solver.specs.Refinement.{permuted, substituted, update, correctedFrom, corrected, round as roundOf, endedBy, refined, start as startOf};
+ghost use Rattle.solver.specs.Solution.{keptSolution as keptOf, answeredSolution as answeredOf, solution, SolutionIs};
 use elimination::Elimination;
 use elimination::eliminate;
 use integers::magnitude;
 use judge::Judgement;
-use judge::Standing;
+use judge::Measurement;
 use judge::conclude;
 use judge::fill_reaches;
 use judge::fill_residuals;
@@ -13,26 +23,17 @@ use judge::first_beyond;
 use limits::MOST_COEFFICIENTS;
 use limits::MOST_TANKS;
 use limits::TRIAL_LIMIT;
+use outcome::Refusal;
+use outcome::Status;
 use substitution::backward_pass;
 use substitution::forward_pass;
-ghost use mathlib.Core.Path.{_≡_};
-ghost use mathlib.Core.List.{List};
-ghost use Prim.Native.Nat.{ℕ, _≤_};
-ghost use lib.IntN.{ℤ};
-ghost use Rattle.limits.specs.Limits.{mostTanks};
-ghost use Rattle.elimination.specs.Claims.{Permutation};
-ghost use Rattle.judge.specs.System.{System, system};
-ghost use Rattle.solver.specs.Refinement.{permuted, substituted, update, gained-from, gained, round as roundOf, ended-by as endedBy, refined, start as startOf};
-ghost use Rattle.substitution.specs.Passes.{none};
-ghost use Rattle.solver.specs.Solution.{kept as keptOf, answered as answeredOf, solution};
-ghost use Rattle.solver.specs.Limits.{Limits, Measured, Gainable, Updatable, Ready, Startable};
 
 // A trial after so many rounds with what it leaves of each row, and whether the last round stayed within its limits.
 pub struct Progress {
     pub within: bool,
     pub rounds: usize,
     pub trial: [i32; MOST_TANKS],
-    pub standing: Standing,
+    pub measurement: Measurement,
 }
 
 // The figures of the places in `order`, into z; 0 past the n-th.
@@ -42,9 +43,10 @@ fn order_figures<'a>(
     order: &'a [usize; MOST_TANKS],
     z: &mut [i64; MOST_TANKS],
 )
-    requires { ⌜ (n ≤ mostTanks) × Permutation n (now order) × (now z ≡ none) ⌝ }
+    requires { ⌜ (n ≤ mostTanks) × Permutation n (now order) ⌝ }
     ensures { λ r. ⌜ now (z .exit) ≡ permuted n (now (order .entry)) (now (figures .entry)) ⌝ }
 {
+    *z = [0i64; MOST_TANKS];
     for i in 0..n {
         let p = order[i];
         z[i] = figures[p];
@@ -52,9 +54,9 @@ fn order_figures<'a>(
 }
 
 // Y gains d, from the first tank on, up to a figure outside its limit, and whether there was none.
-fn gain_figures(n: usize, trial: &mut [i32; MOST_TANKS], corrections: &[i64; MOST_TANKS]) -> bool
-    requires { ⌜ Gainable n (now trial) (now corrections) ⌝ }
-    ensures { λ r. ⌜ update r (now (trial .exit)) ≡ gained-from (now (corrections .entry)) 0 n (now (trial .entry)) ⌝ }
+fn correct_figures(n: usize, trial: &mut [i32; MOST_TANKS], corrections: &[i64; MOST_TANKS]) -> bool
+    requires { ⌜ FiguresCorrectable n (now trial) (now corrections) ⌝ }
+    ensures { λ r. ⌜ update r (now (trial .exit)) ≡ correctedFrom (now (corrections .entry)) 0 n (now (trial .entry)) ⌝ }
 {
     for j in 0..n {
         let v = (trial[j] as i64) + corrections[j];
@@ -69,20 +71,20 @@ fn gain_figures(n: usize, trial: &mut [i32; MOST_TANKS], corrections: &[i64; MOS
 // The next trial in place of the last, from the residuals of that, and whether every figure of it is within its limit.
 fn update_trial<'a>(
     n: usize,
-    rows: &'a [[i64; MOST_TANKS]; MOST_TANKS],
+    working: &'a [[i64; MOST_TANKS]; MOST_TANKS],
     order: &'a [usize; MOST_TANKS],
     residuals: &'a [i64; MOST_TANKS],
     trial: &mut [i32; MOST_TANKS],
 ) -> bool
-    requires { ⌜ Updatable n (now rows) (now order) (now residuals) (now trial) ⌝ }
-    ensures { λ r. ⌜ update r (now (trial .exit)) ≡ gained n (now (trial .entry)) (substituted (now (rows .entry)) (permuted n (now (order .entry)) (now (residuals .entry))) n) ⌝ }
+    requires { ⌜ Updatable n (now working) (now order) (now residuals) (now trial) ⌝ }
+    ensures { λ r. ⌜ update r (now (trial .exit)) ≡ corrected n (now (trial .entry)) (substituted (now (working .entry)) (permuted n (now (order .entry)) (now (residuals .entry))) n) ⌝ }
 {
     let mut z = [0i64; MOST_TANKS];
     order_figures(n, residuals, order, &mut z);
-    forward_pass(rows, &mut z, n);
+    forward_pass(working, &mut z, n);
     let mut d = [0i64; MOST_TANKS];
-    if backward_pass(rows, &z, n, &mut d) {
-        gain_figures(n, trial, &d)
+    if backward_pass(working, &z, n, &mut d) {
+        correct_figures(n, trial, &d)
     } else {
         false
     }
@@ -96,23 +98,29 @@ fn round<'a>(
     tolerances: &'a [u16; MOST_COEFFICIENTS],
     right_sides: &'a [i32; MOST_TANKS],
     right_tolerances: &'a [u32; MOST_TANKS],
-    rows: &'a [[i64; MOST_TANKS]; MOST_TANKS],
+    working: &'a [[i64; MOST_TANKS]; MOST_TANKS],
     order: &'a [usize; MOST_TANKS],
     mut progress: Progress,
 ) -> Progress
-    requires { ⌜ Ready (now rows) (now order) (system n (now coefficients) (now tolerances) (now «right_sides») (now «right_tolerances»)) scale progress ⌝ }
-    ensures { λ r. ⌜ r ≡ roundOf (now (rows .entry)) (now (order .entry)) (system n (now (coefficients .entry)) (now (tolerances .entry)) (now («right_sides» .entry)) (now («right_tolerances» .entry))) scale progress ⌝ }
+    requires { ⌜ Ready (now working) (now order) (system n (now coefficients) (now tolerances) (now «right_sides») (now «right_tolerances»)) scale progress ⌝ }
+    ensures { λ r. ⌜ r ≡ roundOf (now (working .entry)) (now (order .entry)) (system n (now (coefficients .entry)) (now (tolerances .entry)) (now («right_sides» .entry)) (now («right_tolerances» .entry))) scale progress ⌝ }
 {
     // after refusal 9 the last trial stands
     let mut trial = progress.trial;
-    if update_trial(n, rows, order, &progress.standing.residuals, &mut trial) {
+    if update_trial(
+        n,
+        working,
+        order,
+        &progress.measurement.residuals,
+        &mut trial,
+    ) {
         fill_residuals(
             n,
             scale,
             coefficients,
             right_sides,
             &trial,
-            &mut progress.standing.residuals,
+            &mut progress.measurement.residuals,
         );
         fill_reaches(
             n,
@@ -120,13 +128,17 @@ fn round<'a>(
             tolerances,
             right_tolerances,
             &trial,
-            &mut progress.standing.reaches,
+            &mut progress.measurement.reaches,
         );
-        let unmet = first_beyond(n, &progress.standing.residuals, &progress.standing.reaches);
+        let unmet = first_beyond(
+            n,
+            &progress.measurement.residuals,
+            &progress.measurement.reaches,
+        );
         progress.within = true;
         progress.rounds = progress.rounds + 1;
         progress.trial = trial;
-        progress.standing.unmet = unmet;
+        progress.measurement.unmet = unmet;
     } else {
         progress.within = false;
     }
@@ -148,13 +160,13 @@ fn refine<'a>(
     tolerances: &'a [u16; MOST_COEFFICIENTS],
     right_sides: &'a [i32; MOST_TANKS],
     right_tolerances: &'a [u32; MOST_TANKS],
-    rows: &'a [[i64; MOST_TANKS]; MOST_TANKS],
+    working: &'a [[i64; MOST_TANKS]; MOST_TANKS],
     order: &'a [usize; MOST_TANKS],
     rounds: usize,
     mut progress: Progress,
 ) -> Progress
-    requires { ⌜ Startable (now rows) (now order) (system n (now coefficients) (now tolerances) (now «right_sides») (now «right_tolerances»)) scale progress ⌝ }
-    ensures { λ r. ⌜ r ≡ refined (now (rows .entry)) (now (order .entry)) (system n (now (coefficients .entry)) (now (tolerances .entry)) (now («right_sides» .entry)) (now («right_tolerances» .entry))) scale rounds progress ⌝ }
+    requires { ⌜ Startable (now working) (now order) (system n (now coefficients) (now tolerances) (now «right_sides») (now «right_tolerances»)) scale progress ⌝ }
+    ensures { λ r. ⌜ r ≡ refined (now (working .entry)) (now (order .entry)) (system n (now (coefficients .entry)) (now (tolerances .entry)) (now («right_sides» .entry)) (now («right_tolerances» .entry))) scale rounds progress ⌝ }
 {
     let mut left = rounds;
     while 0 < left {
@@ -165,11 +177,11 @@ fn refine<'a>(
             tolerances,
             right_sides,
             right_tolerances,
-            rows,
+            working,
             order,
             progress,
         );
-        if ended(progress.within, progress.standing.unmet) {
+        if ended(progress.within, progress.measurement.unmet) {
             return progress;
         }
         left -= 1;
@@ -177,14 +189,8 @@ fn refine<'a>(
     progress
 }
 
-// Whether there is an answer, or the refusal: no pivot at some step (8), or a correction or a figure outside its limits (9).
-pub enum Status {
-    Answered,
-    ZeroPivot,
-    OutsideRange,
-}
-
-// The kept trial with its judgement, and the rounds used. After a refusal they are those of the last trial before it.
+// Whether there is an answer, or the refusal: no pivot at some step (8), or a correction or a figure outside its limits (9); the kept trial
+// with its judgement, and the rounds used. After a refusal they are those of the last trial before it.
 pub struct Solution {
     pub status: Status,
     pub rounds: usize,
@@ -202,7 +208,7 @@ fn start<'a>(
     requires { ⌜ n ≤ mostTanks ⌝ }
     ensures { λ r. ⌜ ((A : List ℤ) (E : List ℕ) → r ≡ startOf (system n A E (now («right_sides» .entry)) (now («right_tolerances» .entry))) scale) ⌝ }
 {
-    let standing = Standing {
+    let measurement = Measurement {
         unmet: 0,
         residuals: [0i64; MOST_TANKS],
         reaches: [0u64; MOST_TANKS],
@@ -211,12 +217,12 @@ fn start<'a>(
         within: true,
         rounds: 0,
         trial: [0i32; MOST_TANKS],
-        standing,
+        measurement,
     };
-    fill_scaled_sides(n, scale, right_sides, &mut first.standing.residuals);
-    fill_scaled_tolerances(n, scale, right_tolerances, &mut first.standing.reaches);
-    let unmet = first_beyond(n, &first.standing.residuals, &first.standing.reaches);
-    first.standing.unmet = unmet;
+    fill_scaled_sides(n, scale, right_sides, &mut first.measurement.residuals);
+    fill_scaled_tolerances(n, scale, right_tolerances, &mut first.measurement.reaches);
+    let unmet = first_beyond(n, &first.measurement.residuals, &first.measurement.reaches);
+    first.measurement.unmet = unmet;
     first
 }
 
@@ -226,7 +232,7 @@ fn kept(n: usize, status: Status, progress: Progress) -> Solution
     ensures { λ r. ⌜ ((s : System) (D : ℕ) → s .n ≡ n → Measured s D progress → r ≡ keptOf s D status progress) ⌝ }
 {
     let trial = progress.trial;
-    let judgement = conclude(n, progress.standing);
+    let judgement = conclude(n, progress.measurement);
     Solution {
         status,
         rounds: progress.rounds,
@@ -240,11 +246,16 @@ fn answered(n: usize, progress: Progress) -> Solution
     ensures { λ r. ⌜ ((s : System) (D : ℕ) → s .n ≡ n → Measured s D progress → r ≡ answeredOf s D progress) ⌝ }
 {
     if progress.within {
-        kept(n, Status::Answered, progress)
+        kept(n, Status::Accepted, progress)
     } else {
-        kept(n, Status::OutsideRange, progress)
+        kept(n, Status::Refused(Refusal::OutsideRange), progress)
     }
 }
+
+// The ranges of the figures' types, which the proofs of the rounds need: known of arrays by value. It does nothing.
+fn type_ranges(coefficients: [i16; MOST_COEFFICIENTS], right_sides: [i32; MOST_TANKS])
+    ensures { λ r. ⌜ Ranges coefficients «right_sides» ⌝ }
+{}
 
 // The answer of n rows over n tanks in at most `rounds` rounds, or the refusal that the steps reach. With no round allowed the answer is zero, unless some step has no pivot.
 pub fn solve<'a>(
@@ -256,15 +267,16 @@ pub fn solve<'a>(
     right_tolerances: &'a [u32; MOST_TANKS],
     rounds: usize,
 ) -> Solution
-    requires { ⌜ Limits (system n (now coefficients) (now tolerances) (now «right_sides») (now «right_tolerances»)) scale ⌝ }
-    ensures { λ r. ⌜ r ≡ solution (system n (now (coefficients .entry)) (now (tolerances .entry)) (now («right_sides» .entry)) (now («right_tolerances» .entry))) scale rounds ⌝ }
+    requires { ⌜ Limits n scale ⌝ }
+    ensures { λ r. ⌜ SolutionIs r (solution (system n (now (coefficients .entry)) (now (tolerances .entry)) (now («right_sides» .entry)) (now («right_tolerances» .entry))) scale rounds) ⌝ }
 {
-    let mut rows = [[0i64; MOST_TANKS]; MOST_TANKS];
+    type_ranges(*coefficients, *right_sides);
+    let mut working = [[0i64; MOST_TANKS]; MOST_TANKS];
     let mut order = [0usize; MOST_TANKS];
-    let outcome = eliminate(n, coefficients, &mut rows, &mut order);
+    let outcome = eliminate(n, coefficients, &mut working, &mut order);
     let first = start(n, scale, right_sides, right_tolerances);
     match outcome {
-        Elimination::ZeroPivot(_) => kept(n, Status::ZeroPivot, first),
+        Elimination::ZeroPivot(_) => kept(n, Status::Refused(Refusal::ZeroPivot), first),
         Elimination::Complete => {
             let last = refine(
                 n,
@@ -273,7 +285,7 @@ pub fn solve<'a>(
                 tolerances,
                 right_sides,
                 right_tolerances,
-                &rows,
+                &working,
                 &order,
                 rounds,
                 first,

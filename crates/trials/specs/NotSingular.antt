@@ -1,13 +1,13 @@
 -- "Saying that refusal 8 proves a zero determinant: the working numbers are rounded." A case whose determinant is 1 is refused with 8.
 -- Assumes nothing.
-use mathlib.Core.Path.{_≡_, refl}
-use mathlib.Core.List.{List, [], _∷_}
-use lib.ListN.{getD}
 use lib.IntN.{ℤ, pos, _-ℤ_, _*ℤ_}
+use lib.ListN.{getD}
+use mathlib.Core.List.{List, [], _∷_}
+use mathlib.Core.Path.{_≡_, refl}
 use Rattle.casefile.specs.Case.{Case}
 use Rattle.recordfile.specs.Layout.{longestRecord}
 use Rattle.trials.specs.Result.{refused, lent, found}
-use Rattle.trials.specs.Trials.{tanks}
+use Rattle.trials.specs.Trials.{twoTanks}
 
 -- of two rows, row after row
 abbrev pub determinant : List ℤ → ℤ
@@ -15,8 +15,8 @@ determinant A = getD A 0 (pos 0) *ℤ getD A 3 (pos 0) -ℤ getD A 1 (pos 0) *�
 
 -- rows (32,767, 1) and (32,766, 1)
 abbrev pub nearEqual : Case
-nearEqual = tanks (pos 32767 ∷ pos 1 ∷ pos 32766 ∷ pos 1 ∷ []) (pos 0 ∷ pos 0 ∷ [])
+nearEqual = twoTanks (pos 32767 ∷ pos 1 ∷ pos 32766 ∷ pos 1 ∷ []) (pos 0 ∷ pos 0 ∷ [])
 
-pub not-singular : (determinant (nearEqual .rows .coefficients) ≡ pos 1) × (found nearEqual ≡ refused 8 (lent longestRecord))
+pub not-singular : (determinant (nearEqual .rows .A) ≡ pos 1) × (found nearEqual ≡ refused 8 (lent longestRecord))
 unfolding found
 not-singular = (refl, refl)

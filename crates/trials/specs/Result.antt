@@ -1,34 +1,36 @@
--- What the call gives for a case, from the case's bytes to what is read off the record's bytes. Definitions only. Assumes nothing.
+-- Definitions only.
+-- What the call gives for a case, from the case's bytes to what is read off the record's bytes.
+use Prim.Native.Nat.{ℕ}
+use lib.IntN.{ℤ}
+use lib.ListN.{take, drop, replicate}
 use mathlib.Core.Bool.{Bool, true, false}
 use mathlib.Core.List.{List}
-use Prim.Native.Nat.{ℕ}
-use lib.ListN.{take, drop, replicate}
-use lib.IntN.{ℤ}
-use Rattle.integers.specs.Tables.{table, filled, fill}
-use Rattle.rounding.specs.Half.{rounds-up}
-use Rattle.rounding.specs.Round.{near, rnd}
-use Rattle.fractions.specs.Fraction.{ordered, order}
-use Rattle.fractions.specs.Greatest.{first-greatest}
-use Rattle.judge.specs.System.{residual, reach}
-use Rattle.judge.specs.Judgement.{first-not, first-unmet, deciding, judgement}
-use Rattle.judge.specs.Finding.{Finding, factor-num, factor-den}
-use Rattle.bigendian.specs.Number.{be, bytes}
-use Rattle.figures.specs.Figures.{items, spread}
-use Rattle.fields.specs.Field.{field, fieldStatus}
-use Rattle.rows.specs.Block.{split}
-use Rattle.casefile.specs.Case.{Case, rowsFine}
-use Rattle.casefile.specs.Layout.{rowBytes, encode}
-use Rattle.casefile.specs.Decode.{headStatus, rowOf, rowStatus, rowsStatus, trialStatus, trialOf, endStatus, tailStatus, inputStatus, caseOf, decode, stored}
-use Rattle.casefile.specs.Write.{Written}
-use Rattle.elimination.specs.Steps.{working-row, working, pivot-from, pivot-row, eliminated-row, eliminated-below, advanced, after-steps, eliminated}
-use Rattle.elimination.specs.Outcome.{outcome}
-use Rattle.substitution.specs.Passes.{forward, correction, backward-from, backward}
-use Rattle.solver.specs.Refinement.{gained-from, updated, round, refined}
-use Rattle.solver.specs.Solution.{solution}
 use Rattle.buffer.specs.Buffer.{run, all}
+use Rattle.rows.specs.Block.{split}
+use Rattle.integers.specs.Tables.{table, filled, fill}
+use Rattle.rounding.specs.Half.{roundsUp}
+use Rattle.rounding.specs.Round.{near, rnd}
+use Rattle.fractions.specs.Fraction.{orderOfNumbers, order}
+use Rattle.fractions.specs.Greatest.{firstGreatest}
+use Rattle.judge.specs.Finding.{Finding, factorNumerator, factorDenominator}
+use Rattle.judge.specs.Judgement.{firstNot, firstUnmet, deciding, judgement}
+use Rattle.judge.specs.System.{residual, reach}
+use Rattle.elimination.specs.Outcome.{outcome}
+use Rattle.elimination.specs.Steps.{workingRow, workingMatrix, pivotFrom, pivotRow, eliminatedRow, eliminatedBelow, nextRun, afterSteps, eliminated}
+use Rattle.substitution.specs.Passes.{forward, correction, backwardFrom, backward}
+use Rattle.solver.specs.Refinement.{correctedFrom, updated, round, refined}
+use Rattle.solver.specs.Solution.{solution}
+use Rattle.outcome.specs.CallResult.{CallResult}
+use Rattle.bigendian.specs.Number.{be, beBytes}
+use Rattle.figures.specs.Figures.{items, spread}
+use Rattle.fields.specs.Due.{endStatus}
+use Rattle.fields.specs.Field.{field, fieldStatus}
+use Rattle.casefile.specs.Case.{Case, rowsFine}
+use Rattle.casefile.specs.Decode.{headStatus, rowOf, rowStatus, rowsStatus, trialStatus, trialOf, tailStatus, inputStatus, caseOf, decode}
+use Rattle.casefile.specs.Layout.{rowBytes, encode}
 use Rattle.recordfile.specs.Layout.{recordOf, longestRecord}
 use Rattle.recordfile.specs.ReadOff.{recordedRounds, recordedAnswer, recordedFinding}
-use Rattle.ballast.specs.Call.{worked, answer-of, finished, call}
+use Rattle.ballast.specs.Call.{caseSolution, answerOf, recordResult, judgeResult}
 
 -- ---- what a record says
 
@@ -54,20 +56,20 @@ pub record Figures : Type 0 where
 
 -- n rows, read off the record's bytes by position
 abbrev figuresOf : ℕ → Finding → List ℕ → Figures
-figuresOf n w bytes =
+figuresOf n w beBytes =
     record {
       met = w .met;
       unmet = w .unmet;
-      rounds = recordedRounds bytes;
-      answer = table n (recordedAnswer bytes);
+      rounds = recordedRounds beBytes;
+      answer = table n (recordedAnswer beBytes);
       residuals = table n (w .R);
       reaches = table n (w .T);
-      factor = factorOf (w .none) (factor-num w) (factor-den w);
+      factor = factorOf (w .none) (factorNumerator w) (factorDenominator w);
       decides = w .decides;
     }
 
 abbrev pub readOff : ℕ → List ℕ → Figures
-readOff n bytes = figuresOf n (recordedFinding n bytes) bytes
+readOff n beBytes = figuresOf n (recordedFinding n beBytes) beBytes
 
 -- ---- what a call gives
 
@@ -80,7 +82,7 @@ abbrev resultBy : ℕ → Bool → ℕ → List ℕ → Result
 resultBy n false m buffer = recorded m (readOff n (take m buffer)) (drop m buffer)
 resultBy n true k buffer = refused k buffer
 
-abbrev pub resultOf : ℕ → Written → Result
+abbrev pub resultOf : ℕ → CallResult → Result
 resultOf n w = resultBy n (w .outcome .refused) (w .outcome .number) (w .buffer)
 
 -- a result buffer of so many bytes, none of them a record's
@@ -90,5 +92,5 @@ lent room = replicate room 0xA5
 -- the call on a case's bytes, with the shortest result buffer that it takes. The line below names all that the call computes with, once for
 -- every statement about it
 unfoldable pub found : Case → Result
-unfolding encode rowBytes split spread call decode inputStatus caseOf headStatus rowsStatus rowStatus rowOf rowsFine trialStatus trialOf endStatus tailStatus stored fieldStatus items all be worked answer-of solution eliminated after-steps advanced pivot-row pivot-from eliminated-below eliminated-row working working-row fill outcome refined round updated gained-from forward backward backward-from correction rnd near rounds-up judgement first-unmet first-not deciding first-greatest order ordered residual reach filled finished recordOf run field bytes
-found c = resultOf (c .n) (call (encode c) (lent longestRecord))
+unfolding encode rowBytes split spread judgeResult decode inputStatus caseOf headStatus rowsStatus rowStatus rowOf rowsFine trialStatus trialOf endStatus tailStatus fieldStatus items all be caseSolution answerOf solution eliminated afterSteps nextRun pivotRow pivotFrom eliminatedBelow eliminatedRow workingMatrix workingRow fill outcome refined round updated correctedFrom forward backward backwardFrom correction rnd near roundsUp judgement firstUnmet firstNot deciding firstGreatest order orderOfNumbers residual reach filled recordResult recordOf run field beBytes
+found c = resultOf (c .n) (judgeResult (encode c) (lent longestRecord))

@@ -1,9 +1,9 @@
 -- The marked trials, proved together: for every trial of the list, the call on the case's bytes leaves a record that says exactly what is
 -- expected, or refuses with the number expected, and every other byte stays. Assumes nothing.
-use mathlib.Core.Path.{_≡_, refl}
-use mathlib.Core.List.{List, map, List·Memᴰ, List·Memᴰ·head, List·Memᴰ·tail}
 use Prim.Native.Nat.{ℕ}
 use lib.ListN.{drop}
+use mathlib.Core.List.{List, map, List·Memᴰ, List·Memᴰ·head, List·Memᴰ·tail}
+use mathlib.Core.Path.{_≡_, refl}
 use Rattle.recordfile.specs.Layout.{recordLength, longestRecord}
 use Rattle.trials.specs.Result.{Result, recorded, refused, lent, found}
 use Rattle.trials.specs.Trials.{Expected, figures, refusal, Trial, trials}
@@ -13,14 +13,14 @@ abbrev pub due : ℕ → Expected → Result
 due n (figures g) = recorded (recordLength n) g (drop (recordLength n) (lent longestRecord))
 due n (refusal k) = refused k (lent longestRecord)
 
-abbrev pub outcomeOf : Trial → Result
-outcomeOf t = found (t .case)
+abbrev pub trialOutcome : Trial → Result
+trialOutcome t = found (t .case)
 
 abbrev pub expectedOf : Trial → Result
 expectedOf t = due (t .case .n) (t .expected)
 
 -- the whole list, by computation
-pub as-expected : map outcomeOf trials ≡ map expectedOf trials
+pub as-expected : map trialOutcome trials ≡ map expectedOf trials
 unfolding found
 as-expected = refl
 
@@ -30,5 +30,5 @@ agree f g (List·Memᴰ·head p) e = cc
 agree f g (List·Memᴰ·tail m) e = agree f g m (cc)
 
 -- and so each trial of it
-pub each-as-expected : (t : Trial) → List·Memᴰ t trials → outcomeOf t ≡ expectedOf t
-each-as-expected t m = agree outcomeOf expectedOf m as-expected
+pub each-as-expected : (t : Trial) → List·Memᴰ t trials → trialOutcome t ≡ expectedOf t
+each-as-expected t m = agree trialOutcome expectedOf m as-expected

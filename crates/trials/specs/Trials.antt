@@ -1,10 +1,11 @@
+-- Definitions only.
 -- The marked trials of document 01, "Trials at the edges": each is a case with all that its record is to say, or its refusal. Where the paper
--- leaves a figure out, it is worked out by hand from "The steps" and "Judgement". Definitions only. Assumes nothing.
-use mathlib.Core.Bool.{true, false}
-use mathlib.Core.List.{List, [], _∷_}
+-- leaves a figure out, it is worked out by hand from "The steps" and "Judgement".
 use Prim.Native.Nat.{ℕ}
 use lib.IntN.{ℤ, pos, negsuc}
-use Rattle.casefile.specs.Case.{Case, given}
+use mathlib.Core.Bool.{true, false}
+use mathlib.Core.List.{List, [], _∷_}
+use Rattle.casefile.specs.Case.{Case, caseOfLists}
 use Rattle.trials.specs.Result.{Factor, ratio, none, Figures}
 
 -- ---- trials
@@ -20,12 +21,12 @@ pub record Trial : Type 0 where
   pub expected : Expected
 
 -- "One tank": e, K, A, E, b, f, and the trial figures that the case brings
-abbrev pub tank : ℕ → ℕ → ℤ → ℕ → ℤ → ℕ → List ℤ → Case
-tank e K A E b f Y = given 1 e K (A ∷ []) (E ∷ []) (b ∷ []) (f ∷ []) Y
+abbrev pub oneTank : ℕ → ℕ → ℤ → ℕ → ℤ → ℕ → List ℤ → Case
+oneTank e K A E b f Y = caseOfLists 1 e K (A ∷ []) (E ∷ []) (b ∷ []) (f ∷ []) Y
 
 -- "Two tanks", "tolerances 0, K 1": the coefficients row after row, and both b
-abbrev pub tanks : List ℤ → List ℤ → Case
-tanks A b = given 2 0 1 A (0 ∷ 0 ∷ 0 ∷ 0 ∷ []) b (0 ∷ 0 ∷ []) []
+abbrev pub twoTanks : List ℤ → List ℤ → Case
+twoTanks A b = caseOfLists 2 0 1 A (0 ∷ 0 ∷ 0 ∷ 0 ∷ []) b (0 ∷ 0 ∷ []) []
 
 -- met: rounds used, then Y, R and T, the factor, and the row that decides
 abbrev whereMet : ℕ → List ℤ → List ℤ → List ℕ → Factor → ℕ → Expected
@@ -40,34 +41,34 @@ whereUnmet unmet rounds Y R T factor row =
 -- ---- one tank
 
 -- "The case printed above.": A 5, b −2, no tolerances, e 1, K 1
-abbrev pub printed : Trial
-printed =
+abbrev pub printedTrial : Trial
+printedTrial =
     record {
-      case = tank 1 1 (pos 5) 0 (negsuc 1) 0 [];
+      case = oneTank 1 1 (pos 5) 0 (negsuc 1) 0 [];
       expected = whereMet 1 (negsuc 3 ∷ []) (pos 0 ∷ []) (0 ∷ []) (ratio 0 1) 1;
     }
 
 -- "A 3, b 1, E 0, f 1, e 1, K 1: Y 3, R 1, T 10, met."
-abbrev right-tolerance : Trial
-right-tolerance =
+abbrev rightTolerance : Trial
+rightTolerance =
     record {
-      case = tank 1 1 (pos 3) 0 (pos 1) 1 [];
+      case = oneTank 1 1 (pos 3) 0 (pos 1) 1 [];
       expected = whereMet 1 (pos 3 ∷ []) (pos 1 ∷ []) (10 ∷ []) (ratio 1 10) 1;
     }
 
 -- "The same with f 0: not met, factor none."
-abbrev no-tolerance : Trial
-no-tolerance =
+abbrev noTolerance : Trial
+noTolerance =
     record {
-      case = tank 1 1 (pos 3) 0 (pos 1) 0 [];
+      case = oneTank 1 1 (pos 3) 0 (pos 1) 0 [];
       expected = whereUnmet 1 1 (pos 3 ∷ []) (pos 1 ∷ []) (0 ∷ []) none 1;
     }
 
 -- "With E 1, f 0: T 3, met."
-abbrev coefficient-tolerance : Trial
-coefficient-tolerance =
+abbrev coefficientTolerance : Trial
+coefficientTolerance =
     record {
-      case = tank 1 1 (pos 3) 1 (pos 1) 0 [];
+      case = oneTank 1 1 (pos 3) 1 (pos 1) 0 [];
       expected = whereMet 1 (pos 3 ∷ []) (pos 1 ∷ []) (3 ∷ []) (ratio 1 3) 1;
     }
 
@@ -75,15 +76,15 @@ coefficient-tolerance =
 abbrev negative : Trial
 negative =
     record {
-      case = tank 1 1 (pos 3) 0 (negsuc 0) 1 [];
+      case = oneTank 1 1 (pos 3) 0 (negsuc 0) 1 [];
       expected = whereMet 1 (negsuc 2 ∷ []) (negsuc 0 ∷ []) (10 ∷ []) (ratio 1 10) 1;
     }
 
 -- and with E 1, as in the last of them: T is 10 × 1 + 1 × |−3|
-abbrev negative-both : Trial
-negative-both =
+abbrev negativeBoth : Trial
+negativeBoth =
     record {
-      case = tank 1 1 (pos 3) 1 (negsuc 0) 1 [];
+      case = oneTank 1 1 (pos 3) 1 (negsuc 0) 1 [];
       expected = whereMet 1 (negsuc 2 ∷ []) (negsuc 0 ∷ []) (13 ∷ []) (ratio 1 13) 1;
     }
 
@@ -91,23 +92,23 @@ negative-both =
 abbrev half : Trial
 half =
     record {
-      case = tank 0 1 (pos 2) 0 (pos 1) 1 [];
+      case = oneTank 0 1 (pos 2) 0 (pos 1) 1 [];
       expected = whereMet 1 (pos 1 ∷ []) (negsuc 0 ∷ []) (1 ∷ []) (ratio 1 1) 1;
     }
 
 -- "A 2, b 4, E 1, f 0, trial 1: R 2, T 1, not met, factor 2."
-abbrev factor-two : Trial
-factor-two =
+abbrev factorTwo : Trial
+factorTwo =
     record {
-      case = tank 0 0 (pos 2) 1 (pos 4) 0 (pos 1 ∷ []);
+      case = oneTank 0 0 (pos 2) 1 (pos 4) 0 (pos 1 ∷ []);
       expected = whereUnmet 1 0 (pos 1 ∷ []) (pos 2 ∷ []) (1 ∷ []) (ratio 2 1) 1;
     }
 
 -- "A 2, b 1, E 5, f 0, trial 0: not met, none."
-abbrev zero-brought : Trial
-zero-brought =
+abbrev zeroTrialGiven : Trial
+zeroTrialGiven =
     record {
-      case = tank 0 0 (pos 2) 5 (pos 1) 0 (pos 0 ∷ []);
+      case = oneTank 0 0 (pos 2) 5 (pos 1) 0 (pos 0 ∷ []);
       expected = whereUnmet 1 0 (pos 0 ∷ []) (pos 1 ∷ []) (0 ∷ []) none 1;
     }
 
@@ -117,7 +118,7 @@ zero-brought =
 abbrev exchanged : Trial
 exchanged =
     record {
-      case = tanks (pos 0 ∷ pos 1 ∷ pos 1 ∷ pos 0 ∷ []) (pos 5 ∷ pos 7 ∷ []);
+      case = twoTanks (pos 0 ∷ pos 1 ∷ pos 1 ∷ pos 0 ∷ []) (pos 5 ∷ pos 7 ∷ []);
       expected = whereMet 1 (pos 7 ∷ pos 5 ∷ []) (pos 0 ∷ pos 0 ∷ []) (0 ∷ 0 ∷ []) (ratio 0 1) 1;
     }
 
@@ -125,37 +126,37 @@ exchanged =
 abbrev multiplied : Trial
 multiplied =
     record {
-      case = tanks (pos 2 ∷ pos 1 ∷ pos 1 ∷ pos 3 ∷ []) (pos 5 ∷ pos 10 ∷ []);
+      case = twoTanks (pos 2 ∷ pos 1 ∷ pos 1 ∷ pos 3 ∷ []) (pos 5 ∷ pos 10 ∷ []);
       expected = whereMet 1 (pos 1 ∷ pos 3 ∷ []) (pos 0 ∷ pos 0 ∷ []) (0 ∷ 0 ∷ []) (ratio 0 1) 1;
     }
 
 -- ---- refusals
 
 -- "Rows (1, 1) and (1, 1), K 1: refusal 8."
-abbrev equal-rows : Trial
-equal-rows =
+abbrev equalRows : Trial
+equalRows =
     record {
-      case = tanks (pos 1 ∷ pos 1 ∷ pos 1 ∷ pos 1 ∷ []) (pos 0 ∷ pos 0 ∷ []);
+      case = twoTanks (pos 1 ∷ pos 1 ∷ pos 1 ∷ pos 1 ∷ []) (pos 0 ∷ pos 0 ∷ []);
       expected = refusal 8;
     }
 
 -- "A 1, b 1,000,000,000, K 1: refusal 9."
-abbrev too-large : Trial
-too-large = record { case = tank 0 1 (pos 1) 0 (pos 1000000000) 0 []; expected = refusal 9 }
+abbrev tooLarge : Trial
+tooLarge = record { case = oneTank 0 1 (pos 1) 0 (pos 1000000000) 0 []; expected = refusal 9 }
 
 abbrev pub trials : List Trial
 trials =
-    printed
-    ∷ right-tolerance
-    ∷ no-tolerance
-    ∷ coefficient-tolerance
+    printedTrial
+    ∷ rightTolerance
+    ∷ noTolerance
+    ∷ coefficientTolerance
     ∷ negative
-    ∷ negative-both
+    ∷ negativeBoth
     ∷ half
-    ∷ factor-two
-    ∷ zero-brought
+    ∷ factorTwo
+    ∷ zeroTrialGiven
     ∷ exchanged
     ∷ multiplied
-    ∷ equal-rows
-    ∷ too-large
+    ∷ equalRows
+    ∷ tooLarge
     ∷ []

@@ -1,32 +1,49 @@
-// Runs the call on the inputs of vectors.bin and the printed verdict on those of texts.bin, and compares what they do with the results of a second
-// implementation that stand there.
+// Runs the call on the inputs of vectors.bin, the printed verdict on those of texts.bin and the case writer on the figures of writes.bin, and compares
+// what they do with the results of a second implementation that stand there.
 //
-// All numbers are big-endian. A file is a stream of results, each of
+// All numbers are big-endian. A file is a stream of results. In vectors.bin and texts.bin each begins with
 //     2 bytes  the length of the input, at most 400, or FFFF at the end of the stream
 //     then     the input
-// and in vectors.bin
-//     2 bytes  the length of the result buffer, at most 400
+// and in writes.bin with
+//     3 bytes  n, e and K, or FFFFFF at the end of the stream; no call begins FFFF
+//     then     five lists, each with one byte for its count, at most 80, and its figures: coefficients and their tolerances of 2 bytes, right sides,
+//              their tolerances and the trial of 4 bytes
+// In vectors.bin and writes.bin there follows
+//     2 bytes  the length of the result buffer, at most 512
 //     1 byte   0 for a count, 1 for a refusal
-//     2 bytes  the count, at most 180, or the refusal's number
-//     then     for a count, the record
+//     2 bytes  the count, or the refusal's number
+//     then     for a count, the record or the case
 // and in texts.bin
 //     2 bytes  the length of the printed text, at most 800
 //     then     the text
-// Every byte of the result buffer is A5 before the call, and so is every byte beyond the record after it, or every byte after a refusal.
+// Every byte of the result buffer is A5 before the call, and so is every byte beyond the record, case or text after it, or every byte after a refusal.
+ghost use Prim.Native.Nat.{_≤_};
 use libc::STDOUT_FILENO;
 use outcome::Outcome;
 
 const LONGEST_INPUT: usize = 400;
 
-const LONGEST_BUFFER: usize = 400;
-
-const LONGEST_RECORD: usize = recordfile::LONGEST_RECORD;
+const LONGEST_BUFFER: usize = 512;
 
 const TEXT_ROOM: usize = report::TEXT_ROOM;
+
+const MOST_COUNT: u8 = 80;
+
+const MOST_FIGURES: usize = MOST_COUNT as usize;
+
+// Of so many figures of 2 bytes and of 4.
+const SHORT_LIST: usize = 160;
+
+const LONG_LIST: usize = 320;
+
+// What no figure exceeds: the lists hold figures that the writer has to refuse.
+const NO_LIMIT: u64 = 0xFFFFFFFF;
 
 const UNTOUCHED: u8 = 0xA5;
 
 const END_MARK: usize = 0xFFFF;
+
+const END_BYTE: u8 = 0xFF;
 
 const COUNT: u8 = 0;
 
@@ -35,12 +52,28 @@ const REFUSAL: u8 = 1;
 // More results than any file has, so that the run ends on every file.
 const MOST_RESULTS: u64 = 1000000;
 
+// The three files.
+enum Stream {
+    Records,
+    Texts,
+    Writes,
+}
+
 // What the next place of the stream holds.
 enum Item {
     Agrees,
     Differs,
     End,
     Malformed,
+}
+
+// What a call comes to, where the stream is well formed: the length of its buffer, its outcome's kind and number, and the buffer after it.
+struct Expected {
+    complete: bool,
+    length: usize,
+    kind: u8,
+    number: usize,
+    buffer: [u8; LONGEST_BUFFER],
 }
 
 // How many results there are, how many agree, the number of the first that does not or 0, and whether the stream is well formed to its end.
@@ -57,6 +90,14 @@ fn read_exactly(fd: i32, buf: &mut [u8]) -> bool {
     io::read_full(fd, buf) == wanted
 }
 
+// Fills the first count bytes of buf from the file, and answers whether it has so many and there was enough.
+fn read_front(fd: i32, count: usize, buf: &mut [u8]) -> bool {
+    if buf.len() < count {
+        return false;
+    }
+    read_exactly(fd, &mut buf[..count])
+}
+
 // Whether an outcome is of this kind and has this number.
 fn same_outcome(outcome: Outcome, kind: u8, number: usize) -> bool {
     match outcome {
@@ -65,21 +106,55 @@ fn same_outcome(outcome: Outcome, kind: u8, number: usize) -> bool {
     }
 }
 
-// Whether two buffers hold the same bytes.
 fn same_buffers(a: &[u8; LONGEST_BUFFER], b: &[u8; LONGEST_BUFFER]) -> bool {
     check::same(a, b)
 }
 
-// Calls on the first size bytes of inputs with a buffer of this length, and compares the outcome, the buffer and the bytes that were not lent
-// with what was expected.
-fn compare(
-    inputs: &[u8],
-    size: usize,
-    length: usize,
-    kind: u8,
-    number: usize,
-    expected: &[u8; LONGEST_BUFFER],
-) -> Item {
+fn same_texts(a: &[u8; TEXT_ROOM], b: &[u8; TEXT_ROOM]) -> bool {
+    check::same(a, b)
+}
+
+fn agreement(same: bool) -> Item {
+    if same { Item::Agrees } else { Item::Differs }
+}
+
+// Reads what a call comes to.
+fn read_expected(fd: i32) -> Expected {
+    let mut head = [0u8; 5];
+    let begun = read_exactly(fd, &mut head);
+    let length = bigendian::read_u16(&head, 0) as usize;
+    let kind = head[2];
+    let number = bigendian::read_u16(&head, 3) as usize;
+    let mut buffer = [UNTOUCHED; LONGEST_BUFFER];
+    let mut complete = begun && kind <= REFUSAL;
+    if complete && kind == COUNT {
+        complete = read_front(fd, number, &mut buffer);
+    }
+    Expected {
+        complete,
+        length,
+        kind,
+        number,
+        buffer,
+    }
+}
+
+// Compares an outcome and the buffer, with its bytes that were not lent, with what was expected.
+fn compare(outcome: Outcome, buffer: &[u8; LONGEST_BUFFER], expected: Expected) -> Item {
+    if !same_outcome(outcome, expected.kind, expected.number) {
+        return Item::Differs;
+    }
+    let after = expected.buffer;
+    agreement(same_buffers(buffer, &after))
+}
+
+// Calls on the first size bytes of inputs, and compares.
+fn compare_record(fd: i32, inputs: &[u8], size: usize) -> Item {
+    let expected = read_expected(fd);
+    let length = expected.length;
+    if !expected.complete {
+        return Item::Malformed;
+    }
     if inputs.len() < size {
         return Item::Malformed;
     }
@@ -88,109 +163,191 @@ fn compare(
     }
     let mut buffer = [UNTOUCHED; LONGEST_BUFFER];
     let outcome = ballast::judge_case(&inputs[..size], &mut buffer[..length]);
-    if !same_outcome(outcome, kind, number) {
-        return Item::Differs;
-    }
-    if same_buffers(&buffer, expected) {
-        Item::Agrees
-    } else {
-        Item::Differs
-    }
+    compare(outcome, &buffer, expected)
 }
 
-// Reads the result for the first size bytes of inputs, and compares.
-fn compare_next(fd: i32, inputs: &[u8; LONGEST_INPUT], size: usize) -> Item {
-    let mut head = [0u8; 5];
-    if !read_exactly(fd, &mut head) {
-        return Item::Malformed;
-    }
-    let length = bigendian::read_u16(&head, 0) as usize;
-    let kind = head[2];
-    let number = bigendian::read_u16(&head, 3) as usize;
-    if REFUSAL < kind {
-        return Item::Malformed;
-    }
-    let mut expected = [UNTOUCHED; LONGEST_BUFFER];
-    if kind == COUNT {
-        if LONGEST_RECORD < number {
-            return Item::Malformed;
-        }
-        if !read_exactly(fd, &mut expected[..number]) {
-            return Item::Malformed;
-        }
-    }
-    compare(inputs, size, length, kind, number, &expected)
-}
-
-// Whether two texts, with what follows them, are the same.
-fn same_texts(a: &[u8; TEXT_ROOM], b: &[u8; TEXT_ROOM]) -> bool {
-    check::same(a, b)
-}
-
-// Prints the verdict of the first size bytes of inputs, and compares it with the expected text of this length.
-fn compare_text(inputs: &[u8], size: usize, length: usize, expected: &[u8; TEXT_ROOM]) -> Item {
-    if inputs.len() < size {
-        return Item::Malformed;
-    }
-    let mut text = [UNTOUCHED; TEXT_ROOM];
-    if verdict_text::verdict_text(&inputs[..size], &mut text) != length {
-        return Item::Differs;
-    }
-    if same_texts(&text, expected) {
-        Item::Agrees
-    } else {
-        Item::Differs
-    }
-}
-
-// Reads the text for the first size bytes of inputs, and compares.
-fn compare_next_text(fd: i32, inputs: &[u8; LONGEST_INPUT], size: usize) -> Item {
+// Prints the verdict of the first size bytes of inputs, and compares it with the text that follows.
+fn compare_text(fd: i32, inputs: &[u8], size: usize) -> Item {
     let mut head = [0u8; 2];
     if !read_exactly(fd, &mut head) {
         return Item::Malformed;
     }
     let length = bigendian::read_u16(&head, 0) as usize;
-    if TEXT_ROOM < length {
-        return Item::Malformed;
-    }
     let mut expected = [UNTOUCHED; TEXT_ROOM];
-    if !read_exactly(fd, &mut expected[..length]) {
+    if !read_front(fd, length, &mut expected) {
         return Item::Malformed;
     }
-    compare_text(inputs, size, length, &expected)
+    if inputs.len() < size {
+        return Item::Malformed;
+    }
+    let mut text = [UNTOUCHED; TEXT_ROOM];
+    let outcome = verdict_text::verdict_text(&inputs[..size], &mut text);
+    if !same_outcome(outcome, COUNT, length) {
+        return Item::Differs;
+    }
+    agreement(same_texts(&text, &expected))
 }
 
-// Whether nothing is left of the file.
-fn is_ended(fd: i32) -> bool {
+// The count of a list, where it is one.
+fn read_count(fd: i32) -> usize
+    ensures { λ r. ⌜ r ≤ 80 ⌝ }
+{
     let mut byte = [0u8; 1];
-    io::read_full(fd, &mut byte) == 0
+    if !read_exactly(fd, &mut byte) {
+        return 0;
+    }
+    let count = byte[0];
+    if MOST_COUNT < count {
+        return 0;
+    }
+    count as usize
+}
+
+// Lists of figures: how many were read, which is none of a list that is malformed; what follows such a list then does not fit.
+
+fn read_i16s(fd: i32, out: &mut [i16]) -> usize
+    ensures { λ r. ⌜ r ≤ 80 ⌝ }
+{
+    let count = read_count(fd);
+    if out.len() < count {
+        return 0;
+    }
+    let mut bytes = [0u8; SHORT_LIST];
+    if !read_front(fd, 2 * count, &mut bytes) {
+        return 0;
+    }
+    figures::read_i16s(&bytes, 0, NO_LIMIT, &mut out[..count]);
+    count
+}
+
+fn read_u16s(fd: i32, out: &mut [u16]) -> usize
+    ensures { λ r. ⌜ r ≤ 80 ⌝ }
+{
+    let count = read_count(fd);
+    if out.len() < count {
+        return 0;
+    }
+    let mut bytes = [0u8; SHORT_LIST];
+    if !read_front(fd, 2 * count, &mut bytes) {
+        return 0;
+    }
+    figures::read_u16s(&bytes, 0, NO_LIMIT, &mut out[..count]);
+    count
+}
+
+fn read_i32s(fd: i32, out: &mut [i32]) -> usize
+    ensures { λ r. ⌜ r ≤ 80 ⌝ }
+{
+    let count = read_count(fd);
+    if out.len() < count {
+        return 0;
+    }
+    let mut bytes = [0u8; LONG_LIST];
+    if !read_front(fd, 4 * count, &mut bytes) {
+        return 0;
+    }
+    figures::read_i32s(&bytes, 0, NO_LIMIT, &mut out[..count]);
+    count
+}
+
+fn read_u32s(fd: i32, out: &mut [u32]) -> usize
+    ensures { λ r. ⌜ r ≤ 80 ⌝ }
+{
+    let count = read_count(fd);
+    if out.len() < count {
+        return 0;
+    }
+    let mut bytes = [0u8; LONG_LIST];
+    if !read_front(fd, 4 * count, &mut bytes) {
+        return 0;
+    }
+    figures::read_u32s(&bytes, 0, NO_LIMIT, &mut out[..count]);
+    count
+}
+
+// Writes the case with this n, e and K and the lists that follow, and compares.
+fn compare_write(fd: i32, n: u8, exponent: u8, rounds: u8) -> Item {
+    let mut coefficients = [0i16; MOST_FIGURES];
+    let mut tolerances = [0u16; MOST_FIGURES];
+    let mut right_sides = [0i32; MOST_FIGURES];
+    let mut right_tolerances = [0u32; MOST_FIGURES];
+    let mut trial = [0i32; MOST_FIGURES];
+    let a = read_i16s(fd, &mut coefficients);
+    let e = read_u16s(fd, &mut tolerances);
+    let b = read_i32s(fd, &mut right_sides);
+    let f = read_u32s(fd, &mut right_tolerances);
+    let y = read_i32s(fd, &mut trial);
+    let expected = read_expected(fd);
+    let length = expected.length;
+    if !expected.complete {
+        return Item::Malformed;
+    }
+    if LONGEST_BUFFER < length {
+        return Item::Malformed;
+    }
+    let mut buffer = [UNTOUCHED; LONGEST_BUFFER];
+    let outcome = case_writer::write_case(
+        n as usize,
+        exponent as usize,
+        rounds as usize,
+        &coefficients[..a],
+        &tolerances[..e],
+        &right_sides[..b],
+        &right_tolerances[..f],
+        &trial[..y],
+        &mut buffer[..length],
+    );
+    compare(outcome, &buffer, expected)
+}
+
+// The end of the stream, if nothing is left of the file.
+fn ended(fd: i32) -> Item {
+    let mut byte = [0u8; 1];
+    if io::read_full(fd, &mut byte) == 0 {
+        Item::End
+    } else {
+        Item::Malformed
+    }
 }
 
 // Reads the next input or the end of the stream.
-fn next_item(fd: i32, texts: bool) -> Item {
+fn next_input(fd: i32, texts: bool) -> Item {
     let mut head = [0u8; 2];
     if !read_exactly(fd, &mut head) {
         return Item::Malformed;
     }
     let size = bigendian::read_u16(&head, 0) as usize;
     if size == END_MARK {
-        return if is_ended(fd) {
-            Item::End
-        } else {
-            Item::Malformed
-        };
-    }
-    if LONGEST_INPUT < size {
-        return Item::Malformed;
+        return ended(fd);
     }
     let mut inputs = [0u8; LONGEST_INPUT];
-    if !read_exactly(fd, &mut inputs[..size]) {
+    if !read_front(fd, size, &mut inputs) {
         return Item::Malformed;
     }
     if texts {
-        compare_next_text(fd, &inputs, size)
+        compare_text(fd, &inputs, size)
     } else {
-        compare_next(fd, &inputs, size)
+        compare_record(fd, &inputs, size)
+    }
+}
+
+// Reads the next call of the writer or the end of the stream.
+fn next_write(fd: i32) -> Item {
+    let mut head = [0u8; 3];
+    if !read_exactly(fd, &mut head) {
+        return Item::Malformed;
+    }
+    if head[0] == END_BYTE && head[1] == END_BYTE {
+        return ended(fd);
+    }
+    compare_write(fd, head[0], head[1], head[2])
+}
+
+fn next_item(fd: i32, stream: Stream) -> Item {
+    match stream {
+        Stream::Records => next_input(fd, false),
+        Stream::Texts => next_input(fd, true),
+        Stream::Writes => next_write(fd),
     }
 }
 
@@ -204,12 +361,12 @@ fn one_more(count: u64) -> u64 {
 }
 
 // Compares every result of the file.
-fn compare_all(fd: i32, texts: bool) -> Tally {
+fn compare_all(fd: i32, stream: Stream) -> Tally {
     let mut results = 0;
     let mut agree = 0;
     let mut first_difference = 0;
     while results < MOST_RESULTS {
-        let item = next_item(fd, texts);
+        let item = next_item(fd, stream);
         match item {
             Item::Agrees => agree = one_more(agree),
             Item::Differs => {
@@ -237,17 +394,28 @@ fn compare_all(fd: i32, texts: bool) -> Tally {
     }
 }
 
-// Prints `A of N results agree`, or the same of printed verdicts, then the number of the first that does not, and the place where a malformed stream
-// was left.
-fn print(t: Tally, texts: bool) {
+// Prints of what the stream holds results.
+fn print_kind(stream: Stream) {
+    match stream {
+        Stream::Records => {
+            io::write_all(STDOUT_FILENO, b" results agree");
+        }
+        Stream::Texts => {
+            io::write_all(STDOUT_FILENO, b" printed verdicts agree");
+        }
+        Stream::Writes => {
+            io::write_all(STDOUT_FILENO, b" written cases agree");
+        }
+    }
+}
+
+// Prints `A of N results agree`, or the same of printed verdicts or written cases, then the number of the first that does not, and the place where a
+// malformed stream was left.
+fn print(t: Tally, stream: Stream) {
     io::print_decimal(STDOUT_FILENO, t.agree);
     io::write_all(STDOUT_FILENO, b" of ");
     io::print_decimal(STDOUT_FILENO, t.results);
-    if texts {
-        io::write_all(STDOUT_FILENO, b" printed verdicts agree");
-    } else {
-        io::write_all(STDOUT_FILENO, b" results agree");
-    }
+    print_kind(stream);
     if 0 < t.first_difference {
         io::write_all(STDOUT_FILENO, b"; the first that differs is number ");
         io::print_decimal(STDOUT_FILENO, t.first_difference);
@@ -258,19 +426,21 @@ fn print(t: Tally, texts: bool) {
 }
 
 // Compares the results of a file and prints how many agree.
-fn run(path: &[u8], texts: bool) {
+fn run(path: &[u8], stream: Stream) {
     let fd = os::open_read(path);
     if fd < 0 {
         os::fail(path);
         return;
     }
-    print(compare_all(fd, texts), texts);
+    print(compare_all(fd, stream), stream);
     libc::close(fd);
 }
 
 fn main() {
-    run(b"vectors.bin", false);
+    run(b"vectors.bin", Stream::Records);
     io::write_all(STDOUT_FILENO, b", ");
-    run(b"texts.bin", true);
+    run(b"texts.bin", Stream::Texts);
+    io::write_all(STDOUT_FILENO, b", ");
+    run(b"writes.bin", Stream::Writes);
     io::write_all(STDOUT_FILENO, b"\n");
 }

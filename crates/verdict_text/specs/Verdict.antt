@@ -1,30 +1,29 @@
--- What the program `verdict` prints for the bytes of a case. Assumes nothing.
-use mathlib.Core.Path.{_≡_}
-use mathlib.Core.List.{List}
+-- Definitions only.
+-- What the program `verdict` prints for the bytes of a case, and what the call that prints it answers and leaves.
 use Prim.Native.Nat.{ℕ}
-use Rattle.outcome.specs.declared.Refusal.{Refusal}
+use lib.ListN.{length}
+use mathlib.Core.List.{List}
+use Rattle.outcome.specs.CallResult.{CallResult, writeIfAccepted, checkRoom}
+use Rattle.outcome.specs.Outcome.{numberOf}
 use Rattle.outcome.specs.declared.Status.{Status}
 use Rattle.outcome.specs.declared.Status.the-variants.{Accepted, Refused}
-use Rattle.outcome.specs.Outcome.{numberOf}
-use Rattle.report.specs.Text.{report, printed, printed-refusal}
+use Rattle.casefile.specs.Decode.{decode}
+use Rattle.ballast.specs.Call.{answerOf}
 use Rattle.ballast.specs.declared.Answer.{Answer}
+use Rattle.report.specs.Text.{report, text, refusalText, textRoom}
 
 -- "For a refusal it prints `refused`, a space and the number"; otherwise the lines of the answer
-abbrev pub text-by : Status → ℕ → Answer → List ℕ
-text-by Accepted room a = printed room (report (a .n) (a .exponent) (a .rounds) (a .trial) (a .judgement))
-text-by (Refused r) room a = printed-refusal room (numberOf r)
+abbrev pub textBy : Status → Answer → List ℕ
+textBy Accepted a = text (report (a .n) (a .exponent) (a .solution .rounds) (a .solution .trial) (a .solution .judgement))
+textBy (Refused r) a = refusalText (numberOf r)
 
--- in a buffer of so much room
-unfoldable pub verdict-of : ℕ → Answer → List ℕ
-verdict-of room a = text-by (a .status) room a
+unfoldable pub textOf : Answer → List ℕ
+textOf a = textBy (a .solution .status) a
 
--- ---- as the code meets it
+-- the whole text of any bytes, sound or spoiled
+unfoldable pub printedText : List ℕ → List ℕ
+printedText input = textOf (answerOf (decode input))
 
-module _ (room : ℕ) (x a : Answer) (same : x ≡ a) where
-  pub verdict-refused : (r : Refusal) (k : ℕ) → x .status ≡ Refused r → k ≡ numberOf r → printed-refusal room k ≡ verdict-of room a
-  unfolding verdict-of
-  verdict-refused r k t e = rw (← same, t, e)
-
-  pub verdict-accepted : x .status ≡ Accepted → printed room (report (x .n) (x .exponent) (x .rounds) (x .trial) (x .judgement)) ≡ verdict-of room a
-  unfolding verdict-of
-  verdict-accepted t = rw (← same, t)
+-- refusal 1 for a buffer that is shorter than the room, and otherwise the text over the buffer's front
+unfoldable pub textCall : List ℕ → List ℕ → CallResult
+textCall input out = writeIfAccepted (checkRoom textRoom (length out) Accepted) (printedText input) out

@@ -1,21 +1,26 @@
 // What the program `verdict` prints, as bytes in a buffer.
-ghost use lib.ListN.{length};
-ghost use Rattle.casefile.specs.Decode.{decode};
-ghost use Rattle.buffer.specs.Buffer.{Wrote};
-ghost use Rattle.ballast.specs.Call.{answer-of};
-ghost use Rattle.verdict_text.specs.Verdict.{verdict-of};
+ghost use mathlib.Core.Path.{_≡_};
+ghost use Rattle.outcome.specs.CallResult.{callResult};
+ghost use Rattle.verdict_text.specs.Verdict.{textCall};
+use outcome::Outcome;
+use outcome::Refusal;
 use outcome::Status;
 
-// The printed verdict of any bytes as a case, over the front of out; what lies beyond it stays. A buffer that has too little room is left as it was.
-pub fn verdict_text(input: &[u8], out: &mut [u8]) -> usize
-    ensures { λ r. ⌜ Wrote (verdict-of (length (now (out .entry))) (answer-of (decode (now (input .entry))))) 0 (now (out .entry)) r (now (out .exit)) ⌝ }
+// The printed verdict of any bytes as a case, over the front of out; what lies beyond it stays. It returns the text's length, or refuses with 1
+// an out shorter than report::TEXT_ROOM, which is left as it was. A refused case has a text too, so there is no other refusal.
+pub fn verdict_text(input: &[u8], out: &mut [u8]) -> Outcome
+    ensures { λ r. ⌜ callResult r (now (out .exit)) ≡ textCall (now (input .entry)) (now (out .entry)) ⌝ }
 {
-    let a = ballast::answer_case(input);
-    let status = a.status;
-    if let Status::Refused(refusal) = status {
-        return report::render_refusal(outcome::number(refusal), out);
+    if out.len() < report::TEXT_ROOM {
+        return Outcome::Refused(Refusal::BufferTooShort);
     }
-    let trial = a.trial;
-    let judgement = a.judgement;
-    report::render(a.n, a.exponent, a.rounds, &trial, judgement, out)
+    let a = ballast::answer_case(input);
+    let solution = a.solution;
+    let status = solution.status;
+    if let Status::Refused(refusal) = status {
+        return Outcome::Count(report::render_refusal(outcome::number(refusal), out));
+    }
+    let trial = solution.trial;
+    let judgement = solution.judgement;
+    Outcome::Count(report::render(a.n, a.exponent, solution.rounds, &trial, judgement, out))
 }

@@ -5,7 +5,7 @@ pub const RECORD_ROOM: usize = 180;
 pub const CASE_ROOM: usize = 388;
 pub const TEXT_ROOM: usize = 800;
 
-/// Document 01, "Refused, in this order".
+/// In the order in which a case is looked through; what each means stands in the header.
 #[derive(Clone, Copy, Debug, PartialEq, Eq)]
 #[repr(u8)]
 pub enum Refusal {

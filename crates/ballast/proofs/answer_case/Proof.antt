@@ -1,18 +1,16 @@
 -- `ballast::answer_case` meets its contract: a refusal of the reading, or the answer of the case that was read, brought or worked out.
 -- Assumes nothing.
-use mathlib.Core.Path.{sym, subst, _∙_}
-use mathlib.Core.List.{List}
 use Prim.Native.Nat.{ℕ}
-use native.Mathlib.Omega.{arith}
+use borrow.Author.Needs.{needs}
 use denote.Ref.{now}
-use Rattle.casefile.specs.declared.Case.{Case}
-use Rattle.casefile.specs.CaseLaws.{decode-good}
+use mathlib.Core.List.{List}
+use mathlib.Core.Path.{_∙_}
+use native.Mathlib.Omega.{arith}
 use Rattle.casefile.specs.Decode.{decode}
 use Rattle.casefile.specs.StoredLaws.{Whole, reading-accepted, reading-refused}
-use Rattle.ballast.specs.Call.{Workable}
-use Rattle.ballast.specs.CallLaws.{refusal-read, answer-read, worked-brought, worked-solved}
-use Rattle.ballast.specs.Theorem.{workable}
-use borrow.Author.Needs.{needs}
+use Rattle.casefile.specs.declared.StoredCase.{StoredCase}
+use Rattle.ballast.specs.Bounds.{Workable, workable}
+use Rattle.ballast.specs.CallLaws.{answer-promised, refusal-read, trial-read, solved-read}
 use Rattle.ballast.proofs.answer_case.Statement.{statement}
 use Rattle.ballast.proofs.answer_case.Tie as tie
 
@@ -24,31 +22,30 @@ module _ (d : tie.After-enum-told) where
   abbrev read : tie.After-read-case
   read = d .before .before
 
-  abbrev case : Case
+  abbrev case : StoredCase
   case = read .read-case .result .case
 
   whole : Whole (decode (file read)) case
   whole = reading-accepted (decode (file read)) (read .read-case .result) (read .read-case .ensures) (d .enum-told .given .1)
 
-  fit : Workable case
-  fit =
-      subst (λ k. Workable k) (sym (whole .held))
-      (workable (whole .figures) (decode-good (file read) (whole .figures) (whole .decoded)))
+  fit : Workable (case .n) (case .exponent)
+  fit = workable (file read) case whole
 
 returns : tie.Need-returns
 returns c =
     let r = c .before .before .before .before in
-    c .refused .ensures
-    ∙ refusal-read (decode (file r)) _ (reading-refused (decode (file r)) (r .read-case .result) (r .read-case .ensures) _ (c .before .before .status .given .1))
+    answer-promised _ _
+    (c .refused .ensures
+    ∙ refusal-read (decode (file r)) _ (reading-refused (decode (file r)) (r .read-case .result) (r .read-case .ensures) _ (c .before .before .status .given .1)))
 
 judge-requires : tie.Need-judge-requires
-judge-requires c κs = fit (c .before .before .before .before .before .before .before .before .before) .rows
+judge-requires c κs = fit (c .before .before .before .before .before .before .before .before .before) .limits .small
 
 returns-2 : tie.Need-returns-2
 returns-2 c =
-    let t = c .before .before .before .before .before .before .before .before in
+    let t = c .before .before .before .before .before .before .before .before .before in
     let d = t .before .before in
-    answer-read (decode (file (read d))) (case d) (whole d) _ (worked-brought (case d) _ (t .before .power-of-ten .ensures) _ (t .if1 .taken) (c .judge .ensures))
+    trial-read (decode (file (read d))) (case d) (whole d) _ (t .before .power-of-ten .ensures) _ _ (t .if1 .taken) (c .before .judge .ensures) (c .given-trial .ensures)
 
 solve-requires : tie.Need-solve-requires
 solve-requires c κs =
@@ -57,10 +54,9 @@ solve-requires c κs =
 
 returns-3 : tie.Need-returns-3
 returns-3 c =
-    let t = c .before .before .before .before .before .before .before in
+    let t = c .before .before .before .before .before .before in
     let d = t .before .before in
-    c .answered .ensures
-    ∙ answer-read (decode (file (read d))) (case d) (whole d) _ (worked-solved (case d) _ (t .before .power-of-ten .ensures) _ (t .if1 .left) (c .before .solve .ensures))
+    solved-read (decode (file (read d))) (case d) (whole d) _ (t .before .power-of-ten .ensures) _ (t .if1 .left) (c .solve .ensures)
 
 pub answer-case-spec : {M : Type 1} → statement M
 answer-case-spec =
@@ -73,7 +69,7 @@ answer-case-spec =
     (λ c. search needs)
     (λ c κs. omega (arith, fit c .exponent-small))
     judge-requires
+    (λ c κs. search needs)
     returns-2
     solve-requires
-    (λ c κs. search needs)
     returns-3)

@@ -1,15 +1,15 @@
 -- `ballast_c::ballast_check_case` meets its contract, by what the reader says. Assumes nothing.
-use mathlib.Core.Path.{ap, _∙_}
-use mathlib.Core.List.{List}
 use Prim.Native.Nat.{ℕ}
-use denote.Ref.{now}
-use mir.Facts.{toZ-ofZ}
 use borrow.Author.Needs.{needs}
-use Rattle.casefile.specs.declared.Case.{Case}
+use denote.Ref.{now}
+use mathlib.Core.List.{List}
+use mathlib.Core.Path.{ap, _∙_}
+use mir.Facts.{toZ-ofZ}
 use Rattle.casefile.specs.Decode.{decode}
 use Rattle.casefile.specs.StoredLaws.{Whole, reading-accepted, reading-refused}
-use Rattle.ballast_c.specs.Result.{number}
+use Rattle.casefile.specs.declared.StoredCase.{StoredCase}
 use Rattle.ballast_c.specs.Laws.{small-refused, small-count, tanks-refused, tanks-accepted, few-tanks}
+use Rattle.ballast_c.specs.Result.{resultNumber}
 use Rattle.ballast_c.proofs.ballast_check_case.Statement.{statement}
 use Rattle.ballast_c.proofs.ballast_check_case.Tie as tie
 
@@ -18,7 +18,7 @@ module _ (c : tie.After-enum-told) where
   abbrev file : List ℕ
   file = now (c .before .before .before .before .args .input)
 
-  abbrev case : Case
+  abbrev case : StoredCase
   case = c .before .before .read-case .result .case
 
   whole : Whole (decode file) case
@@ -32,12 +32,12 @@ returns c =
     let s = now (k .before .before .args .input) in
     let r = k .read-case in
     toZ-ofZ (record { sfits = c .result .ok }) ∙ c .result .ensures
-    ∙ ap number (tanks-refused (decode s) _ (reading-refused (decode s) (r .result) (r .ensures) _ (c .before .before .status .given .1)))
+    ∙ ap resultNumber (tanks-refused (decode s) _ (reading-refused (decode s) (r .result) (r .ensures) _ (c .before .before .status .given .1)))
 
 returns-2 : tie.Need-returns-2
 returns-2 c =
     let d = c .before .before in
-    toZ-ofZ (record { sfits = c .result2 .ok }) ∙ c .result2 .ensures ∙ ap number (tanks-accepted (decode (file d)) (case d) (whole d))
+    toZ-ofZ (record { sfits = c .result2 .ok }) ∙ c .result2 .ensures ∙ ap resultNumber (tanks-accepted (decode (file d)) (case d) (whole d))
 
 pub ballast-check-case-spec : {M : Type 1} → statement M
 ballast-check-case-spec =

@@ -1,7 +1,7 @@
 -- `ballast_c::ballast_judge_case` meets its contract: the call's promise under the call's number. Assumes nothing.
+use borrow.Author.Needs.{needs}
 use mathlib.Core.Path.{_∙_}
 use mir.Facts.{toZ-ofZ}
-use borrow.Author.Needs.{needs}
 use Rattle.ballast_c.specs.Laws.{judged-small, judged}
 use Rattle.ballast_c.proofs.ballast_judge_case.Statement.{statement}
 use Rattle.ballast_c.proofs.ballast_judge_case.Tie as tie

@@ -1,7 +1,7 @@
 -- `ballast_c::ballast_write_case` meets its contract: what the writer leaves, under its number. Assumes nothing.
+use borrow.Author.Needs.{needs}
 use mathlib.Core.Path.{_∙_}
 use mir.Facts.{toZ-ofZ}
-use borrow.Author.Needs.{needs}
 use Rattle.ballast_c.specs.Laws.{written-small, written}
 use Rattle.ballast_c.proofs.ballast_write_case.Statement.{statement}
 use Rattle.ballast_c.proofs.ballast_write_case.Tie as tie

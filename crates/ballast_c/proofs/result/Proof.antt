@@ -1,15 +1,15 @@
 -- `ballast_c::result` meets its contract, by the outcome's two cases. Assumes nothing.
-use mathlib.Core.Path.{sym, ap, _∙_}
 use Prim.Native.Nat.{_^_, _<_}
-use native.Mathlib.Omega.{arith}
-use lib.IntN.{pos, negℤ}
-use mir.Syntax.{w64}
-use mir.Facts.{toZ-ofZ, toZ-pos}
 use borrow.Author.Needs.{needs}
+use lib.IntN.{pos, negℤ}
+use mathlib.Core.Path.{sym, ap, _∙_}
+use mir.Facts.{toZ-ofZ, toZ-pos}
+use mir.Syntax.{w64}
+use native.Mathlib.Omega.{arith}
+use Rattle.integers.specs.Code.{minus-fits}
 use Rattle.integers.specs.Ring.{zero-subℤ}
 use Rattle.integers.specs.Size.{sfits-size, sfits-negℤ}
-use Rattle.integers.specs.Code.{minus-fits}
-use Rattle.ballast_c.specs.Result.{number}
+use Rattle.ballast_c.specs.Result.{resultNumber}
 use Rattle.ballast_c.proofs.result.Statement.{statement}
 use Rattle.ballast_c.proofs.result.Tie as tie
 
@@ -23,12 +23,12 @@ sub-result : tie.Need-sub-result
 sub-result c = simp (toZ-pos w64 (low c)) (minus-fits (c .number .result) (omega (arith, c .number .ok)))
 
 returns : tie.Need-returns
-returns c = simp (toZ-pos w64 (c .before .before .before .pre .count _ (c .before .outcome .given .1))) (ap number (sym (c .before .outcome .given .1)))
+returns c = simp (toZ-pos w64 (c .before .before .before .pre .count _ (c .before .outcome .given .1))) (ap resultNumber (sym (c .before .outcome .given .1)))
 
 returns-2 : tie.Need-returns-2
 returns-2 c =
     let h = sfits-negℤ {w = w64} (c .number .result) (omega (arith, c .number .ok)) in
-    simp (toZ-pos w64 (low c), zero-subℤ (pos (c .number .result)), toZ-ofZ h) (ap (λ k. negℤ (pos k)) (c .number .ensures) ∙ ap number (sym (c .before .before .outcome2 .given .1)))
+    simp (toZ-pos w64 (low c), zero-subℤ (pos (c .number .result)), toZ-ofZ h) (ap (λ k. negℤ (pos k)) (c .number .ensures) ∙ ap resultNumber (sym (c .before .before .outcome2 .given .1)))
 
 pub result-spec : {M : Type 1} → statement M
 result-spec =

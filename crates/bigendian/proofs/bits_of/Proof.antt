@@ -1,13 +1,13 @@
 -- `bigendian::bits_of` meets its contract: by the sign of the number, in 64 bits as in the width.
 -- Assumes nothing.
-use mathlib.Core.Path.{_≡_}
-use mathlib.Core.Bool.{true, false}
 use Prim.Native.Nat.{_-_}
 use lib.IntN.{ℤ, pos}
 use lib.Signed.{ltZ, mag}
-use native.Mathlib.Omega.{arith}
+use mathlib.Core.Bool.{true, false}
+use mathlib.Core.Path.{_≡_}
 use mir.Syntax.{w64}
 use mir.Val.{toZ, ofZ}
+use native.Mathlib.Omega.{arith}
 use Rattle.integers.specs.Signed.{sign-of, below-zero, from-zero, bits-below-zero, bits-from-zero, mag-ones}
 use Rattle.bigendian.specs.Number.{highest}
 use Rattle.bigendian.proofs.bits_of.Statement.{statement}

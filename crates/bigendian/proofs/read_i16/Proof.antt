@@ -1,10 +1,10 @@
 -- `bigendian::read_i16` meets its contract: the signed number of the bits that were read.
 -- Assumes nothing.
+use borrow.Author.Needs.{needs}
 use mathlib.Core.Path.{refl, _∙_, ap}
 use mir.Syntax.{w16}
 use mir.Val.{toZ}
 use Rattle.integers.specs.Signed.{narrow-fits, narrow-is}
-use borrow.Author.Needs.{needs}
 use Rattle.bigendian.proofs.read_i16.Statement.{statement}
 use Rattle.bigendian.proofs.read_i16.Tie as tie
 

@@ -1,10 +1,10 @@
 -- `bigendian::read_i32` meets its contract: the signed number of the bits that were read.
 -- Assumes nothing.
+use borrow.Author.Needs.{needs}
 use mathlib.Core.Path.{refl, _∙_, ap}
 use mir.Syntax.{w32}
 use mir.Val.{toZ}
 use Rattle.integers.specs.Signed.{narrow-fits, narrow-is}
-use borrow.Author.Needs.{needs}
 use Rattle.bigendian.proofs.read_i32.Statement.{statement}
 use Rattle.bigendian.proofs.read_i32.Tie as tie
 

@@ -1,10 +1,10 @@
 -- `bigendian::read_i64` meets its contract: the signed number of the bits that were read.
 -- Assumes nothing.
+use borrow.Author.Needs.{needs}
 use mathlib.Core.Path.{refl, _∙_, ap}
+use mir.Facts.{toZ-ofZ}
 use mir.Syntax.{w64}
 use mir.Val.{toZ}
-use mir.Facts.{toZ-ofZ}
-use borrow.Author.Needs.{needs}
 use Rattle.bigendian.proofs.read_i64.Statement.{statement}
 use Rattle.bigendian.proofs.read_i64.Tie as tie
 

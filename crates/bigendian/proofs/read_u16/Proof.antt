@@ -1,13 +1,13 @@
 -- `bigendian::read_u16` meets its contract: a number in two parts of one byte each.
 -- Assumes nothing.
 use Prim.Native.Nat.{_+_, _*_, _^_}
-use native.Mathlib.Omega.{arith}
-use mathlib.Core.Path.{_≡_, sym, _∙_}
-use lib.ListN.{getD, take, drop}
+use borrow.Author.Needs.{needs}
 use denote.Ref.{now}
+use lib.ListN.{getD, take, drop}
+use mathlib.Core.Path.{_≡_, sym, _∙_}
+use native.Mathlib.Omega.{arith}
 use Rattle.bigendian.specs.Number.{be}
 use Rattle.bigendian.specs.NumberLaws.{be-one, be-two}
-use borrow.Author.Needs.{needs}
 use Rattle.bigendian.proofs.read_u16.Statement.{statement}
 use Rattle.bigendian.proofs.read_u16.Tie as tie
 

@@ -1,8 +1,8 @@
 -- `bigendian::read_u64` meets its contract: a number in two parts of 4 bytes each.
 -- Assumes nothing.
+use borrow.Author.Needs.{needs}
 use mathlib.Core.Path.{sym}
 use Rattle.bigendian.specs.NumberLaws.{be-two}
-use borrow.Author.Needs.{needs}
 use Rattle.bigendian.proofs.read_u64.Statement.{statement}
 use Rattle.bigendian.proofs.read_u64.Tie as tie
 

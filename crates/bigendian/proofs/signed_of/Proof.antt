@@ -1,12 +1,12 @@
 -- `bigendian::signed_of` meets its contract: by the half that the bits stand in, in 64 bits as in the width.
 -- Assumes nothing.
-use mathlib.Core.Path.{sym, _∙_}
 use Prim.Native.Nat.{_-_}
-use native.Mathlib.Omega.{arith}
+use borrow.Author.Needs.{needs}
+use mathlib.Core.Path.{sym, _∙_}
 use mir.Syntax.{w64}
+use native.Mathlib.Omega.{arith}
 use Rattle.integers.specs.Signed.{lower-half, upper-half}
 use Rattle.bigendian.specs.Number.{highest}
-use borrow.Author.Needs.{needs}
 use Rattle.bigendian.proofs.signed_of.Statement.{statement}
 use Rattle.bigendian.proofs.signed_of.Tie as tie
 

@@ -1,7 +1,7 @@
 -- `bigendian::write_u64` meets its contract: a number in two parts of 4 bytes each, one after the other.
 -- Assumes nothing.
-use Rattle.bigendian.specs.NumberLaws.{written-two}
 use borrow.Author.Needs.{needs}
+use Rattle.bigendian.specs.NumberLaws.{written-two}
 use Rattle.bigendian.proofs.write_u64.Statement.{statement}
 use Rattle.bigendian.proofs.write_u64.Tie as tie
 

@@ -1,18 +1,19 @@
 -- `case_reader::read_case` meets its contract: each refusal of a part is the whole's, and without one the arrays hold the case.
 -- Assumes nothing.
 use Prim.Native.Nat.{ℕ, _≤_}
-use native.Mathlib.Omega.{arith}
+use borrow.Author.Needs.{needs}
+use denote.Ref.{now}
 use mathlib.Core.List.{List}
 use mathlib.Core.Path.{_≡_, sym, _∙_}
-use denote.Ref.{now}
-use Rattle.outcome.specs.declared.Status.the-variants.{Accepted}
+use native.Mathlib.Omega.{arith}
 use Rattle.limits.specs.Limits.{mostTanks}
+use Rattle.outcome.specs.declared.Status.the-variants.{Accepted}
+use Rattle.fields.specs.AnswerLaws.{read-status}
 use Rattle.casefile.specs.Decode.{afterHead, rowsStatus}
 use Rattle.casefile.specs.RowsLaws.{square-fits}
-use Rattle.case_reader.specs.declared.Head.{Head}
 use Rattle.case_reader.specs.Read.{HeadFound}
+use Rattle.case_reader.specs.declared.Head.{Head}
 use Rattle.case_reader.proofs.Whole.{small, head-stops, rows-stop, tail-stops, whole}
-use borrow.Author.Needs.{needs}
 use Rattle.case_reader.proofs.read_case.Statement.{statement}
 use Rattle.case_reader.proofs.read_case.Tie as tie
 
@@ -41,13 +42,13 @@ module _ (r : tie.After-enum-told2) where
   after-head = rows .before .before .before .before .before
 
   rows-fine : let x = after-head in rowsStatus (head x .n) (head x .n) (afterHead (s x)) ≡ Accepted
-  rows-fine = sym (rows .read-rows .ensures .status) ∙ r .enum-told2 .given .1
+  rows-fine = sym (read-status (rows .read-rows .ensures)) ∙ r .enum-told2 .given .1
 
 abbrev after-rows : tie.After-read-tail → tie.After-enum-told2
 after-rows t = t .before .before
 
 returns : tie.Need-returns
-returns c = c .refused .ensures ∙ head-stops _ _ (c .before .before .before .before .read-head .ensures) _ (c .before .before .found .given .1)
+returns c = head-stops _ _ (c .before .before .before .before .read-head .ensures) _ (c .before .before .found .given .1) (c .refused .ensures)
 
 read-rows-requires : tie.Need-read-rows-requires
 read-rows-requires c κs = let h = c .before .before .before .before in omega (arith, few h, square-fits _ (few h))
@@ -56,14 +57,14 @@ returns-2 : tie.Need-returns-2
 returns-2 c =
     let r = c .before .before .before .before .before .before .before .before in
     let h = r .before .before .before .before .before in
-    c .refused2 .ensures ∙ rows-stop (s h) (head h) (head-found h) (head-fine h) _ (sym (r .read-rows .ensures .status) ∙ c .before .before .rows .given .1)
+    rows-stop (s h) (head h) (head-found h) (head-fine h) _ (sym (read-status (r .read-rows .ensures)) ∙ c .before .before .rows .given .1) (c .refused2 .ensures)
 
 returns-3 : tie.Need-returns-3
 returns-3 c =
     let t = c .before .before .before .before .before in
     let r = after-rows t in
     let h = after-head r in
-    c .refused3 .ensures ∙ tail-stops _ (head h) (head-found h) (head-fine h) (rows-fine r) _ (sym (t .read-tail .ensures .status) ∙ c .before .before .tail .given .1)
+    tail-stops _ (head h) (head-found h) (head-fine h) (rows-fine r) _ (sym (read-status (t .read-tail .ensures)) ∙ c .before .before .tail .given .1) (c .refused3 .ensures)
 
 returns-4 : tie.Need-returns-4
 returns-4 c =
@@ -71,7 +72,7 @@ returns-4 c =
     let r = after-rows t in
     let h = after-head r in
     let accepted = c .enum-told3 .given .1 in
-    whole _ (head h) (head-found h) (head-fine h) (rows-fine r) (sym (t .read-tail .ensures .status) ∙ accepted) _ _
+    whole _ (head h) (head-found h) (head-fine h) (rows-fine r) (sym (read-status (t .read-tail .ensures)) ∙ accepted) _ _
     (rows r .read-rows .ensures .made (r .enum-told2 .given .1)) (t .read-tail .ensures .made accepted)
 
 pub read-case-spec : {M : Type 1} → statement M

@@ -1,18 +1,23 @@
 -- `case_reader::read_tail` meets its contract: the trial's refusal, then the end field's, then whether the input ends with it.
 -- Assumes nothing.
-use native.Mathlib.Omega.{arith}
-use mathlib.Core.Path.{_≡_, refl, sym, _∙_}
-use lib.ListN.{drop, length-drop}
-use lib.Seq.{drop-drop}
-use denote.Ref.{now}
-use Rattle.outcome.specs.declared.Status.the-variants.{Accepted}
-use Rattle.outcome.specs.Laws.{first-goes-on}
-use Rattle.fields.specs.Field.{endTag, endLength}
-use Rattle.fields.specs.FieldLaws.{Checked, checked}
-use Rattle.casefile.specs.Layout.{rowsEnd, trialSize, endAt}
-use Rattle.casefile.specs.Decode.{trialStatus, endStatus, tailStatus}
-use Rattle.casefile.specs.AnswerLaws.{answer-stops}
+use Prim.Native.Nat.{_-_}
 use borrow.Author.Needs.{needs}
+use denote.Ref.{now}
+use lib.Dec.{eqb}
+use lib.ListN.{length, drop, length-drop}
+use lib.Seq.{drop-drop}
+use mathlib.Core.Path.{_≡_, refl, sym, ap, _∙_}
+use native.Mathlib.Omega.{arith}
+use Rattle.outcome.specs.Laws.{first-goes-on}
+use Rattle.outcome.specs.Outcome.{statusNumber, check}
+use Rattle.outcome.specs.declared.Refusal.the-variants.{TrailingBytes}
+use Rattle.outcome.specs.declared.Status.the-variants.{Accepted}
+use Rattle.fields.specs.AnswerLaws.{read-status, answer-stops}
+use Rattle.fields.specs.Due.{endStatus}
+use Rattle.fields.specs.Field.{endTag, endLength, endSize}
+use Rattle.fields.specs.FieldLaws.{Checked, checked}
+use Rattle.casefile.specs.Decode.{trialStatus, tailStatus}
+use Rattle.casefile.specs.Layout.{rowsEnd, trialSize, endAt}
 use Rattle.case_reader.proofs.read_tail.Statement.{statement}
 use Rattle.case_reader.proofs.read_tail.Tie as tie
 
@@ -31,7 +36,7 @@ module _ (k : tie.After-check-field) where
   start = trial .before .before .before
 
   trial-fine : let g = start .args in trialStatus (g .rounds) (g .n) (drop (rowsEnd (g .n)) (now (g .s))) ≡ Accepted
-  trial-fine = sym (trial .read-trial .ensures .status) ∙ told .enum-told2 .given .1
+  trial-fine = sym (read-status (trial .read-trial .ensures)) ∙ told .enum-told2 .given .1
 
   field : let g = start .args in Checked endTag endLength (now (g .s)) (endAt (g .rounds) (g .n)) (placed .tail-places .result .end) (k .check-field .result)
   field = let g = start .args in checked endTag endLength (now (g .s)) (endAt (g .rounds) (g .n)) (placed .tail-places .ensures .end) refl (k .check-field .ensures)
@@ -44,7 +49,7 @@ module _ (k : tie.After-check-field) where
 
 returns : tie.Need-returns
 unfolding tailStatus
-returns c = answer-stops (c .before .before .before .read-trial .ensures .status) _ (c .enum-told .given .1)
+returns c = answer-stops (read-status (c .before .before .before .read-trial .ensures)) _ (c .enum-told .given .1)
 
 returns-2 : tie.Need-returns-2
 unfolding endStatus
@@ -60,12 +65,11 @@ unfolding endStatus
 returns-3 c =
     let k = c .before .before .before .before in
     let g = start k .args in
+    let at = endAt (g .rounds) (g .n) in
     let e = rw (placed k .tail-places .ensures .end) at (c .check .ensures) in
-    rw (tail-is k)
-    (record {
-      status = e ∙ rw (length-drop (endAt (g .rounds) (g .n)) (now (g .s))) (first-goes-on _ _ (sym (field k .is) ∙ c .before .before .enum-told4 .given .1));
-      made = λ _. trial k .read-trial .ensures .made (told k .enum-told2 .given .1);
-    })
+    let ends : check (eqb (length (now (g .s)) - at) endSize) TrailingBytes ≡ endStatus (drop at (now (g .s))) =
+    rw (← (length-drop at (now (g .s)))) (first-goes-on _ _ (sym (field k .is) ∙ c .before .before .enum-told4 .given .1)) in
+    rw (tail-is k) (record { number = e ∙ ap statusNumber ends; made = λ _. trial k .read-trial .ensures .made (told k .enum-told2 .given .1) })
 
 pub read-tail-spec : {M : Type 1} → statement M
 read-tail-spec =

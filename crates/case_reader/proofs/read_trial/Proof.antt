@@ -1,25 +1,26 @@
 -- `case_reader::read_trial` meets its contract, by whether the case brings a trial: the field's refusal, then its figures.
 -- Assumes nothing.
-use native.Mathlib.Omega.{arith}
-use mathlib.Core.Path.{_≡_, refl, sym}
+use borrow.Author.Needs.{needs}
+use denote.Ref.{now}
 use lib.ListN.{length, take, drop}
 use lib.Seq.{length-take-le}
-use denote.Ref.{now}
+use mathlib.Core.Path.{_≡_, refl, sym}
+use native.Mathlib.Omega.{arith}
 use Rattle.outcome.specs.declared.Refusal.the-variants.{OutsideLimits}
+use Rattle.figures.specs.FigureLaws.{run-at}
 use Rattle.figures.specs.ItemLaws.{length-items}
+use Rattle.fields.specs.AnswerLaws.{fields-read, answer-stops, answer-goes-on}
 use Rattle.fields.specs.Field.{valueOf}
 use Rattle.fields.specs.FieldLaws.{Checked, checked}
-use Rattle.casefile.specs.Layout.{rowsEnd, trialTag, trialKind, trialLength}
 use Rattle.casefile.specs.Decode.{trialStatus, trialOf}
-use Rattle.casefile.specs.TailLaws.{not-brought}
-use Rattle.casefile.specs.AnswerLaws.{answer-stops, answer-goes-on, run-at}
-use borrow.Author.Needs.{needs}
+use Rattle.casefile.specs.Layout.{rowsEnd, trialTag, trialKind, trialLength}
+use Rattle.casefile.specs.TailLaws.{no-trial-given}
 use Rattle.case_reader.proofs.read_trial.Statement.{statement}
 use Rattle.case_reader.proofs.read_trial.Tie as tie
 
 returns : tie.Need-returns
 unfolding trialStatus trialOf
-returns c = let k = c .before .before .args .rounds in rw (not-brought k _ _ (c .if1 .taken)) (record { status = refl; made = λ _. rw (not-brought k _ _ (c .if1 .taken)) })
+returns c = let k = c .before .before .args .rounds in rw (no-trial-given k _ _ (c .if1 .taken)) (fields-read refl (λ _. rw (no-trial-given k _ _ (c .if1 .taken))))
 
 -- the field, checked, and the part that is lent
 module _ (k : tie.After-check-field) where
@@ -58,7 +59,7 @@ returns-3 c =
     let q = run-at trialKind _ (field k .value) (taken k) (w .read-i32s .ensures) in
     rw (k .before .before .if1 .left)
     (answer-goes-on (field k .is) OutsideLimits (w .before .before .before .enum-told2 .given .1)
-    (record { status = q .status; made = λ _. rw (q .made, length-items _ _ (g .n) (valueOf (drop (rowsEnd (g .n)) (now (g .s))))) }) (c .check .ensures))
+    (q .status) (λ _. rw (q .made, length-items _ _ (g .n) (valueOf (drop (rowsEnd (g .n)) (now (g .s)))))) (c .check .ensures))
 
 pub read-trial-spec : {M : Type 1} → statement M
 read-trial-spec =

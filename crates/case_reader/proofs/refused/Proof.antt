@@ -7,7 +7,7 @@ use Rattle.case_reader.proofs.refused.Tie as tie
 
 returns : tie.Need-returns
 unfolding reading stored
-returns c = refl
+returns c = record { number = refl; case = refl }
 
 pub refused-spec : {M : Type 1} → statement M
 refused-spec = tie.close (tie.spec returns)

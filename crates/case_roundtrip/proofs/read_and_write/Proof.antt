@@ -1,17 +1,17 @@
 -- `case_roundtrip::read_and_write` meets its contract: by the law of what was read, over the two contracts.
 -- Assumes nothing.
-use native.Mathlib.Omega.{arith}
-use mathlib.Core.Path.{sym, _∙_}
-use mathlib.Core.List.{List}
 use Prim.Native.Nat.{ℕ}
-use lib.Seq.{length-take-le}
+use borrow.Author.Needs.{needs}
 use denote.Ref.{now}
+use lib.Seq.{length-take-le}
+use mathlib.Core.List.{List}
+use mathlib.Core.Path.{sym, _∙_}
+use native.Mathlib.Omega.{arith}
 use Rattle.bigendian.specs.NumberLaws.{bytes-from}
-use Rattle.casefile.specs.declared.Case.{Case}
 use Rattle.casefile.specs.Decode.{decode}
 use Rattle.casefile.specs.StoredLaws.{Whole, reading-accepted, reading-refused}
+use Rattle.casefile.specs.declared.StoredCase.{StoredCase}
 use Rattle.case_roundtrip.proofs.Trips.{Small, small, again}
-use borrow.Author.Needs.{needs}
 use Rattle.case_roundtrip.proofs.read_and_write.Statement.{statement}
 use Rattle.case_roundtrip.proofs.read_and_write.Tie as tie
 
@@ -26,7 +26,7 @@ module _ (d : tie.After-enum-told) where
   abbrev file : List ℕ
   file = now (start read .args .s)
 
-  abbrev case : Case
+  abbrev case : StoredCase
   case = read .read-case .result .case
 
   whole : Whole (decode file) case

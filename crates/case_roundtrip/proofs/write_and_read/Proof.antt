@@ -1,12 +1,12 @@
 -- `case_roundtrip::write_and_read` meets its contract: by the law of what was written, over the two contracts.
 -- Assumes nothing.
+use borrow.Author.Needs.{needs}
+use denote.Ref.{now}
+use lib.Seq.{length-take-le}
 use mathlib.Core.Path.{sym}
 use native.Mathlib.Omega.{arith}
-use lib.Seq.{length-take-le}
-use denote.Ref.{now}
-use Rattle.casefile.specs.Case.{Case, given}
+use Rattle.casefile.specs.Case.{Case, caseOfLists}
 use Rattle.case_roundtrip.proofs.Trips.{fits, is-read, is-refused}
-use borrow.Author.Needs.{needs}
 use Rattle.case_roundtrip.proofs.write_and_read.Statement.{statement}
 use Rattle.case_roundtrip.proofs.write_and_read.Tie as tie
 
@@ -18,7 +18,7 @@ module _ (k : tie.After-write-case) where
   abbrev case : Case
   case =
       let a = start .args in
-      given (a .n) (a .exponent) (a .rounds) (now (a .coefficients)) (now (a .tolerances)) (now (a .right-sides)) (now (a .right-tolerances)) (now (a .trial))
+      caseOfLists (a .n) (a .exponent) (a .rounds) (now (a .coefficients)) (now (a .tolerances)) (now (a .right-sides)) (now (a .right-tolerances)) (now (a .trial))
 
 slice-reshare-prefix-read-case : tie.Need-slice-reshare-prefix-read-case
 slice-reshare-prefix-read-case c =

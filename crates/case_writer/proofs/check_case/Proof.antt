@@ -1,16 +1,16 @@
 -- `case_writer::check_case` meets its contract: head, counts, figures, in this order.
 -- Assumes nothing.
-use native.Mathlib.Omega.{arith}
-use mathlib.Core.Path.{_≡_, sym, _∙_}
-use mathlib.Core.Bool.{true, false}
-use denote.Ref.{now}
+use borrow.Author.Needs.{needs}
 use borrow.Author.Tests.{not-true, not-false}
-use Rattle.figures.specs.Figures.{allUpTo, allWithin}
+use denote.Ref.{now}
+use mathlib.Core.Bool.{true, false}
+use mathlib.Core.Path.{_≡_, sym, _∙_}
+use native.Mathlib.Omega.{arith}
 use Rattle.limits.specs.Limits.{coefficientLimit, toleranceLimit, rightSideLimit, rightToleranceLimit, trialLimit}
-use Rattle.casefile.specs.Case.{Case, given, HeadSmall, headFine, counted, rowsFine, figuresFine, caseStatus}
+use Rattle.figures.specs.Figures.{allUpToLimit, allWithinLimit}
+use Rattle.casefile.specs.Case.{Case, caseOfLists, HeadSmall, headFine, counted, rowsFine, figuresFine, caseStatus}
 use Rattle.casefile.specs.CaseLaws.{head-small}
 use Rattle.casefile.specs.RowsLaws.{square-fits}
-use borrow.Author.Needs.{needs}
 use Rattle.case_writer.proofs.check_case.Statement.{statement}
 use Rattle.case_writer.proofs.check_case.Tie as tie
 
@@ -18,7 +18,7 @@ use Rattle.case_writer.proofs.check_case.Tie as tie
 abbrev case-of : tie.Start → Case
 case-of s =
     let a = s .args in
-    given (a .n) (a .exponent) (a .rounds) (now (a .a)) (now (a .t)) (now (a .b)) (now (a .f)) (now (a .y))
+    caseOfLists (a .n) (a .exponent) (a .rounds) (now (a .a)) (now (a .t)) (now (a .b)) (now (a .f)) (now (a .y))
 
 -- n, e and K within their limits
 module _ (c : tie.Else1) where
@@ -53,11 +53,11 @@ returns-3 c =
     let p = a .before .before .before in
     let e : counted (case-of (start (p .before))) ≡ true = rw (← (p .tail-places .ensures .trial-count)) (not-false _ (a .before .if2 .left)) in
     let g = start (p .before) .args in
-    let a-is : a .all-i16 .result ≡ allWithin coefficientLimit (now (g .a)) = a .all-i16 .ensures in
-    let t-is : t .all-u16 .result ≡ allUpTo toleranceLimit (now (g .t)) = t .all-u16 .ensures in
-    let b-is : b .all-i32 .result ≡ allWithin rightSideLimit (now (g .b)) = b .all-i32 .ensures in
-    let f-is : f .all-u32 .result ≡ allUpTo rightToleranceLimit (now (g .f)) = f .all-u32 .ensures in
-    let y-is : w .all-i322 .result ≡ allWithin trialLimit (now (g .y)) = w .all-i322 .ensures in
+    let a-is : a .all-i16 .result ≡ allWithinLimit coefficientLimit (now (g .a)) = a .all-i16 .ensures in
+    let t-is : t .all-u16 .result ≡ allUpToLimit toleranceLimit (now (g .t)) = t .all-u16 .ensures in
+    let b-is : b .all-i32 .result ≡ allWithinLimit rightSideLimit (now (g .b)) = b .all-i32 .ensures in
+    let f-is : f .all-u32 .result ≡ allUpToLimit rightToleranceLimit (now (g .f)) = f .all-u32 .ensures in
+    let y-is : w .all-i322 .result ≡ allWithinLimit trialLimit (now (g .y)) = w .all-i322 .ensures in
     rw (head-passed (p .before), e, ← a-is, ← t-is, ← b-is, ← f-is, ← y-is) (c .check .ensures)
 
 pub check-case-spec : {M : Type 1} → statement M

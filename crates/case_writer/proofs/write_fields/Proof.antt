@@ -1,23 +1,23 @@
 -- `case_writer::write_fields` meets its contract: head, rows, trial and end are the encoding, which fits the buffer.
 -- Assumes nothing.
 use Prim.Native.Nat.{ℕ, _+_, _≤_}
-use native.Mathlib.Omega.{arith}
-use mathlib.Core.Path.{_≡_}
-use mathlib.Core.List.{List, [], append-assoc}
-use lib.ListN.{length, length-set}
+use borrow.Author.Needs.{needs}
 use denote.Ref.{now}
+use lib.ListN.{length, length-set}
 use lib.Seq.{sets}
+use mathlib.Core.List.{List, [], append-assoc}
+use mathlib.Core.Path.{_≡_}
+use native.Mathlib.Omega.{arith}
 use Rattle.buffer.specs.Buffer.{joined}
 use Rattle.buffer.specs.Laws.{put}
 use Rattle.buffer.specs.WroteLaws.{wrote-same, wrote-front, wrote-more}
 use Rattle.fields.specs.Field.{headerSize, field, endTag, endSize, endField}
 use Rattle.fields.specs.FieldLaws.{length-field, field-stored}
-use Rattle.casefile.specs.Case.{Case, given, HeadSmall}
+use Rattle.casefile.specs.Case.{Case, caseOfLists, HeadSmall}
+use Rattle.casefile.specs.CaseLaws.{Good, good, encode-is, length-rows-in, length-encode, longest}
 use Rattle.casefile.specs.Layout.{headTag, headValue, rowsAt, endAt, TailPlaced, longestCase, rowField, rowsIn, trialBytes}
 use Rattle.casefile.specs.SoundLaws.{counts}
-use Rattle.casefile.specs.CaseLaws.{Good, good, encode-is, length-rows-in, length-encode, longest}
 use Rattle.casefile.specs.TailLaws.{length-trial}
-use borrow.Author.Needs.{needs}
 use Rattle.case_writer.proofs.write_fields.Statement.{statement}
 use Rattle.case_writer.proofs.write_fields.Tie as tie
 
@@ -25,7 +25,7 @@ use Rattle.case_writer.proofs.write_fields.Tie as tie
 module _ (s : tie.Start) where
   abbrev case : Case
   case =
-      given (s .args .n) (s .args .exponent) (s .args .rounds) (now (s .args .a)) (now (s .args .t)) (now (s .args .b)) (now (s .args .f)) (now (s .args .y))
+      caseOfLists (s .args .n) (s .args .exponent) (s .args .rounds) (now (s .args .a)) (now (s .args .t)) (now (s .args .b)) (now (s .args .f)) (now (s .args .y))
 
   fine : Good case
   fine = good case (s .pre .1)
@@ -39,14 +39,14 @@ module _ (h : tie.After-write-header) where
   start = h .before .before .before .before .before
 
   abbrev head-stored : List ℕ
-  head-stored = let g = start .args in sets (h .write-header .last .0) headerSize (headValue (g .n) (g .exponent) (g .rounds))
+  head-stored = let g = start .args in sets (h .write-header .last .1 .1 .0) headerSize (headValue (g .n) (g .exponent) (g .rounds))
 
   head-room : let g = start .args in
       HeadSmall (g .n) (g .exponent) (g .rounds)
       × (longestCase ≤ length (now (g .out)))
-      × (length (h .write-header .last .0) ≡ length (now (g .out)))
+      × (length (h .write-header .last .1 .1 .0) ≡ length (now (g .out)))
       × (length head-stored ≡ length (now (g .out)))
-  head-room = (fine start .limits, start .pre .0, h .write-header .kept .0, simp length-set (omega (arith, h .write-header .kept)))
+  head-room = (fine start .limits, start .pre .0, h .write-header .kept .1 .1 .0, simp length-set (omega (arith, h .write-header .kept)))
 
 write-rows-requires : tie.Need-write-rows-requires
 write-rows-requires c κs =
@@ -69,7 +69,7 @@ module _ (p : tie.After-tail-places) where
       TailPlaced (g .rounds) (g .n) (p .tail-places .result)
       × (endAt (g .rounds) (g .n) + endSize ≤ longestCase)
       × (longestCase ≤ length (now (g .out)))
-      × (length (put (head-stored header) rowsAt (rows .write-rows .last .0)) ≡ length (now (g .out)))
+      × (length (put (head-stored header) rowsAt (rows .write-rows .last .1 .1 .1 .1 .1 .0)) ≡ length (now (g .out)))
   placed = (p .tail-places .ensures, size begun, begun .pre .0, omega (arith, head-room header, rows .write-rows .kept))
 
 write-trial-requires : tie.Need-write-trial-requires
@@ -86,7 +86,7 @@ returns c =
     let at = p .tail-places .result in
     let q = p .tail-places .ensures in
     let v = headValue (g .n) (g .exponent) (g .rounds) in
-    let w0 = wrote-front (field headTag v) (now (g .out)) (field-stored headTag v (now (g .out)) (h .last .0) (omega (arith, head-room (header p))) (h .ensures)) (length-field headTag v) in
+    let w0 = wrote-front (field headTag v) (now (g .out)) (field-stored headTag v (now (g .out)) (h .last .1 .1 .0) (omega (arith, head-room (header p))) (h .ensures)) (length-field headTag v) in
     let w1 = wrote-more (joined rowField (rowsIn (case s))) (at .trial) w0 (rows p .write-rows .ensures) (omega (arith, q, length-rows-in (case s) (fine s))) in
     let w2 = wrote-more (trialBytes (g .rounds) (now (g .y))) (at .end) w1 (t .write-trial .ensures) (omega (arith, q, length-trial (g .rounds) (g .n) (now (g .y)) (fine s .trial .count))) in
     let w3 = wrote-more endField (at .end + endSize) w2 (e .write-end .ensures) (omega (arith, length-field endTag [])) in

@@ -1,18 +1,18 @@
 -- `case_writer::write_trial` meets its contract, by whether the case brings a trial.
 -- Assumes nothing.
 use Prim.Native.Nat.{ℕ}
-use native.Mathlib.Omega.{arith}
-use mathlib.Core.Path.{_≡_, subst}
-use mathlib.Core.List.{append-nil}
-use lib.ListN.{length}
+use borrow.Author.Needs.{needs}
 use denote.Ref.{now}
-use Rattle.figures.specs.Figures.{spread}
+use lib.ListN.{length}
+use mathlib.Core.List.{append-nil}
+use mathlib.Core.Path.{_≡_, subst}
+use native.Mathlib.Omega.{arith}
 use Rattle.figures.specs.FigureLaws.{length-spread}
+use Rattle.figures.specs.Figures.{spread}
 use Rattle.fields.specs.FieldLaws.{field-written}
 use Rattle.casefile.specs.Layout.{trialTag, trialKind}
-use Rattle.casefile.specs.TailLaws.{not-brought}
+use Rattle.casefile.specs.TailLaws.{no-trial-given}
 use Rattle.case_writer.specs.Room.{TrialRoom}
-use borrow.Author.Needs.{needs}
 use Rattle.case_writer.proofs.write_trial.Statement.{statement}
 use Rattle.case_writer.proofs.write_trial.Tie as tie
 
@@ -21,8 +21,8 @@ module _ (k : tie.After-tail-places) where
   abbrev start : tie.Start
   start = k .before .before .before
 
-  brought : TrialRoom (now (start .args .out)) 0 (start .args .n) (now (start .args .y))
-  brought = subst (λ (r : ℕ). TrialRoom (now (start .args .out)) r (start .args .n) (now (start .args .y))) (k .before .if1 .taken) (start .pre)
+  given : TrialRoom (now (start .args .out)) 0 (start .args .n) (now (start .args .y))
+  given = subst (λ (r : ℕ). TrialRoom (now (start .args .out)) r (start .args .n) (now (start .args .y))) (k .before .if1 .taken) (start .pre)
 
 -- and where its header has been written
 abbrev placed : tie.After-write-header → tie.After-tail-places
@@ -35,11 +35,11 @@ returns c =
     let k = placed h in
     let a = start k .args in
     let v = spread trialKind (now (a .y)) in
-    let l : length v ≡ k .tail-places .result .«trial_len» = omega (arith, length-spread trialKind (now (a .y)), brought k, k .tail-places .ensures) in
+    let l : length v ≡ k .tail-places .result .«trial_len» = omega (arith, length-spread trialKind (now (a .y)), given k, k .tail-places .ensures) in
     rw (k .before .if1 .taken) (simp append-nil (field-written trialTag _ v (now (a .out)) _ l (h .write-header .ensures) (w .write-i32s .ensures)))
 
 returns-2 : tie.Need-returns-2
-returns-2 c = rw (not-brought (c .before .before .args .rounds) _ _ (c .if1 .left))
+returns-2 c = rw (no-trial-given (c .before .before .args .rounds) _ _ (c .if1 .left))
 
 pub write-trial-spec : {M : Type 1} → statement M
 write-trial-spec =
@@ -47,11 +47,11 @@ write-trial-spec =
     (tie.spec
     (λ c κs. search needs)
     (λ c. search needs)
-    (λ c κs. omega (arith, brought (c .before .before)))
-    (λ c. omega (arith, brought (placed (c .before .before))))
-    (λ c. omega (arith, brought (placed (c .before .before))))
+    (λ c κs. omega (arith, given (c .before .before)))
+    (λ c. omega (arith, given (placed (c .before .before))))
+    (λ c. omega (arith, given (placed (c .before .before))))
     (λ c. search needs)
-    (λ c κs. omega (arith, brought (placed (c .before .before .before))))
+    (λ c κs. omega (arith, given (placed (c .before .before .before))))
     (λ c. search needs)
     returns
     returns-2)

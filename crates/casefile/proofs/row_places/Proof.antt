@@ -1,12 +1,9 @@
 -- `casefile::row_places` meets its contract: each place and length is the definition's.
 -- Assumes nothing.
-use native.Mathlib.Omega.{arith}
 use borrow.Author.Needs.{needs}
+use native.Mathlib.Omega.{arith}
 use Rattle.casefile.proofs.row_places.Statement.{statement}
 use Rattle.casefile.proofs.row_places.Tie as tie
-
-returns : tie.Need-returns
-returns c = omega arith
 
 pub row-places-spec : {M : Type 1} → statement M
 row-places-spec =
@@ -18,4 +15,4 @@ row-places-spec =
     (λ c. search needs)
     (λ c. search needs)
     (λ c. search needs)
-    returns)
+    (λ c. omega arith))

@@ -1,18 +1,18 @@
 -- `decimal::digit_count` meets its contract. The loop's invariant: the digits counted off and those of the rest are the digits of x, and one more.
 -- Assumes nothing.
-use mathlib.Core.Path.{_≡_}
 use Prim.Native.Nat.{_+_}
-use native.Mathlib.Nat.{lt-of-lt-of-le}
-use native.Mathlib.Omega.{arith}
 use lib.Dec.{lit≤}
 use lib.ListN.{length}
-use Rattle.decimal.specs.Decimal.{digits}
+use mathlib.Core.Path.{_≡_}
+use native.Mathlib.Nat.{lt-of-lt-of-le}
+use native.Mathlib.Omega.{arith}
+use Rattle.decimal.specs.Decimal.{decimalDigits}
 use Rattle.decimal.specs.DigitLaws.{digits-one, length-digits, length-digits-more}
 use Rattle.decimal.proofs.digit_count.Statement.{statement}
 use Rattle.decimal.proofs.digit_count.Tie as tie
 
 abbrev Inv-loop : tie.InvT-loop
-Inv-loop x rest₀ count₀ rest count = count + length (digits rest) ≡ 1 + length (digits x)
+Inv-loop x rest₀ count₀ rest count = count + length (decimalDigits rest) ≡ 1 + length (decimalDigits x)
 
 abbrev μ-loop : tie.MeasureT-loop
 μ-loop x rest₀ count₀ rest count = rest
@@ -34,7 +34,7 @@ loop-again c = omega (arith, length-digits-more (c .before .loop .rest) (omega a
 returns : tie.Need-returns Inv-loop μ-loop
 returns c =
     let r = c .before .loop .rest in
-    let e : length (digits r) ≡ 1 = rw (digits-one r (omega arith)) in
+    let e : length (decimalDigits r) ≡ 1 = rw (digits-one r (omega arith)) in
     omega (arith, c .before .loop .inv)
 
 pub digit-count-spec : {M : Type 1} → statement M

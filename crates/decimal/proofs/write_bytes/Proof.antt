@@ -1,12 +1,12 @@
 -- `decimal::write_bytes` meets its contract. The loop's invariant: the first i bytes of the word are written.
 -- Assumes nothing.
+use Prim.Native.Nat.{_-_}
+use lib.ListN.{length, getD}
 use mathlib.Core.List.{[], _∷_}
 use mathlib.Core.Path.{refl}
-use Prim.Native.Nat.{_-_}
 use native.Mathlib.Omega.{arith}
-use lib.ListN.{length, getD}
-use Rattle.buffer.specs.WroteLaws.{wrote-one}
 use Rattle.buffer.specs.RunLaws.{joined-each, Running, run-begun, run-next, run-turn, run-joined}
+use Rattle.buffer.specs.WroteLaws.{wrote-one}
 use Rattle.decimal.proofs.write_bytes.Statement.{statement}
 use Rattle.decimal.proofs.write_bytes.Tie as tie
 

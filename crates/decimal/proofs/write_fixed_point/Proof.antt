@@ -1,24 +1,24 @@
 -- `decimal::write_fixed_point` meets its contract: the sign, the whole part, and what follows the point.
 -- Assumes nothing.
-use mathlib.Core.Path.{_≡_}
-use mathlib.Core.List.{_++_}
 use Prim.Native.Nat.{ℕ, _/_, _%_, _^_, _<_}
-use native.Mathlib.Nat.{one-le-pow}
-use native.Mathlib.Omega.{arith}
+use borrow.Author.Needs.{needs}
 use denote.Ref.{now}
 use lib.Dec.{lit≤}
 use lib.IntN.{ℤ, natAbs}
-use mir.Syntax.{w64}
+use mathlib.Core.List.{_++_}
+use mathlib.Core.Path.{_≡_}
 use mir.Facts.{toZ-ofZ}
-use borrow.Author.Needs.{needs}
+use mir.Syntax.{w64}
+use native.Mathlib.Nat.{one-le-pow}
+use native.Mathlib.Omega.{arith}
 use Rattle.buffer.specs.Buffer.{Room, Wrote}
 use Rattle.buffer.specs.WroteLaws.{room-front, room-next, wrote-then}
-use Rattle.decimal.specs.Decimal.{digits, minus, fraction, fixed-point}
+use Rattle.decimal.specs.Decimal.{decimalDigits, minusSign, fraction, fixedPoint}
 use Rattle.decimal.proofs.write_fixed_point.Statement.{statement}
 use Rattle.decimal.proofs.write_fixed_point.Tie as tie
 
-text : (e : ℕ) (x : ℤ) (size unit : ℕ) → size ≡ natAbs x → unit ≡ 10 ^ e → fixed-point e x ≡ minus x ++ (digits (size / unit) ++ fraction e (size % unit))
-unfolding fixed-point
+text : (e : ℕ) (x : ℤ) (size unit : ℕ) → size ≡ natAbs x → unit ≡ 10 ^ e → fixedPoint e x ≡ minusSign x ++ (decimalDigits (size / unit) ++ fraction e (size % unit))
+unfolding fixedPoint
 text e x size unit s u = rw (s, u)
 
 -- before the first write
@@ -29,18 +29,18 @@ module _ (p : tie.After-power-of-ten) where
   divisor : 0 < p .power-of-ten .result
   divisor = rw (p .power-of-ten .ensures) (one-le-pow (p .before .before .before .args .e) 10 (lit≤ tt))
 
-  same : let s = p .before .before .before in fixed-point (s .args .e) (s .args .x) ≡ minus (s .args .x) ++ (digits (p .before .magnitude .result / p .power-of-ten .result) ++ fraction (s .args .e) (p .before .magnitude .result % p .power-of-ten .result))
+  same : let s = p .before .before .before in fixedPoint (s .args .e) (s .args .x) ≡ minusSign (s .args .x) ++ (decimalDigits (p .before .magnitude .result / p .power-of-ten .result) ++ fraction (s .args .e) (p .before .magnitude .result % p .power-of-ten .result))
   same = let s = p .before .before .before in text (s .args .e) (s .args .x) (p .before .magnitude .result) (p .power-of-ten .result) size (p .power-of-ten .ensures)
 
-  room : let s = p .before .before .before in Room (minus (s .args .x) ++ (digits (p .before .magnitude .result / p .power-of-ten .result) ++ fraction (s .args .e) (p .before .magnitude .result % p .power-of-ten .result))) (s .args .at) (now (s .args .out))
+  room : let s = p .before .before .before in Room (minusSign (s .args .x) ++ (decimalDigits (p .before .magnitude .result / p .power-of-ten .result) ++ fraction (s .args .e) (p .before .magnitude .result % p .power-of-ten .result))) (s .args .at) (now (s .args .out))
   room = rw same at (p .before .before .before .pre .1)
 
 -- the sign is written
 module _ (c : tie.After-write-minus) where
-  sign : let s = c .before .before .before .before .before in Wrote (minus (s .args .x)) (s .args .at) (now (s .args .out)) (c .write-minus .result) (c .write-minus .last .1 .1 .0)
+  sign : let s = c .before .before .before .before .before in Wrote (minusSign (s .args .x)) (s .args .at) (now (s .args .out)) (c .write-minus .result) (c .write-minus .last .1 .1 .0)
   sign = rw (toZ-ofZ {w = w64} (c .before .before .before .before .before .fits .x)) at (c .write-minus .ensures)
 
-  left : let p = c .before .before in Room (digits (p .before .magnitude .result / p .power-of-ten .result) ++ fraction (p .before .before .before .args .e) (p .before .magnitude .result % p .power-of-ten .result)) (c .write-minus .result) (c .write-minus .last .1 .1 .0)
+  left : let p = c .before .before in Room (decimalDigits (p .before .magnitude .result / p .power-of-ten .result) ++ fraction (p .before .before .before .args .e) (p .before .magnitude .result % p .power-of-ten .result)) (c .write-minus .result) (c .write-minus .last .1 .1 .0)
   left = room-next (room (c .before .before)) sign
 
 write-minus-requires : tie.Need-write-minus-requires

@@ -1,21 +1,21 @@
 -- `decimal::write_fraction` meets its contract: nothing for e = 0; else the point, then the digits behind it.
 -- Assumes nothing.
-use mathlib.Core.List.{[], _∷_, _++_}
 use Prim.Native.Nat.{_+_, _<_}
-use native.Mathlib.Omega.{arith}
+use borrow.Author.Needs.{needs}
 use denote.Ref.{now}
 use lib.ListN.{length, set, length-set}
-use borrow.Author.Needs.{needs}
+use mathlib.Core.List.{[], _∷_, _++_}
+use native.Mathlib.Omega.{arith}
 use Rattle.buffer.specs.Buffer.{Room, Wrote}
 use Rattle.buffer.specs.WroteLaws.{room-next, wrote-none, wrote-one, wrote-then}
-use Rattle.decimal.specs.Decimal.{last-digits}
+use Rattle.decimal.specs.Decimal.{lastDigits}
 use Rattle.decimal.specs.DigitLaws.{fraction-some}
 use Rattle.decimal.proofs.write_fraction.Statement.{statement}
 use Rattle.decimal.proofs.write_fraction.Tie as tie
 
 -- where e is not 0
 module _ (c : tie.Else1) where
-  room : let s = c .before .before in Room ((46 ∷ []) ++ last-digits (s .args .e) (s .args .x)) (s .args .at) (now (s .args .out))
+  room : let s = c .before .before in Room ((46 ∷ []) ++ lastDigits (s .args .e) (s .args .x)) (s .args .at) (now (s .args .out))
   room = let s = c .before .before in rw (fraction-some (s .args .e) (s .args .x) (c .if1 .left)) at (s .pre)
 
   inside : let s = c .before .before in s .args .at < length (now (s .args .out))

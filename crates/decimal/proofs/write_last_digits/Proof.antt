@@ -1,13 +1,13 @@
 -- `decimal::write_last_digits` meets its contract. The loop's invariant: the digits that are left, written over the buffer as it is, give
 -- what the whole writes over the buffer as it came. Assumes nothing.
-use mathlib.Core.Path.{_≡_, refl, sym, ap, _∙_}
-use mathlib.Core.List.{List, [], _∷_}
 use Prim.Native.Nat.{ℕ, suc, _+_, _-_, _/_, _%_, _≤_}
-use native.Mathlib.Omega.{arith}
 use lib.ListN.{length, set, length-set}
-use Rattle.buffer.specs.Buffer.{onto-at, Wrote}
+use mathlib.Core.List.{List, [], _∷_}
+use mathlib.Core.Path.{_≡_, refl, sym, ap, _∙_}
+use native.Mathlib.Omega.{arith}
+use Rattle.buffer.specs.Buffer.{ontoAt, Wrote}
 use Rattle.buffer.specs.Laws.{onto-at-none, onto-at-before, set-onto-at}
-use Rattle.decimal.specs.Decimal.{digit, last-digits}
+use Rattle.decimal.specs.Decimal.{digit, lastDigits}
 use Rattle.decimal.specs.DigitLaws.{length-last-digits}
 use Rattle.decimal.proofs.write_last_digits.Statement.{statement}
 use Rattle.decimal.proofs.write_last_digits.Tie as tie
@@ -16,14 +16,14 @@ record Filling (x count at : ℕ) (out₀ out : List ℕ) (rest left : ℕ) : Ty
   room : at + count ≤ length out₀
   within : left ≤ count
   same : length out ≡ length out₀
-  is : onto-at at (last-digits left rest) out ≡ onto-at at (last-digits count x) out₀
+  is : ontoAt at (lastDigits left rest) out ≡ ontoAt at (lastDigits count x) out₀
 
 module _ {x count at : ℕ} {out₀ out : List ℕ} where
   turn : (rest k : ℕ) → Filling x count at out₀ out rest (suc k) → Filling x count at out₀ (set out (at + k) (digit (rest % 10))) (rest / 10) k
-  unfolding last-digits
+  unfolding lastDigits
   turn rest k c =
       let d : ℕ = digit (rest % 10) in
-      let a : List ℕ = last-digits k (rest / 10) in
+      let a : List ℕ = lastDigits k (rest / 10) in
       let l : at + length a ≡ at + k = ap (λ (m : ℕ). at + m) (length-last-digits k (rest / 10)) in
       let e = onto-at-before at (at + k) a (d ∷ []) out l (omega (arith, c .room, c .within, c .same)) in
       record {
@@ -33,8 +33,8 @@ module _ {x count at : ℕ} {out₀ out : List ℕ} where
         is = rw (set-onto-at (at + k) d out (omega (arith, c .room, c .within, c .same))) (e ∙ c .is);
       }
 
-  ended : (rest : ℕ) → Filling x count at out₀ out rest 0 → Wrote (last-digits count x) at out₀ (at + count) out
-  unfolding last-digits
+  ended : (rest : ℕ) → Filling x count at out₀ out rest 0 → Wrote (lastDigits count x) at out₀ (at + count) out
+  unfolding lastDigits
   ended rest c =
       record { place = rw (length-last-digits count x); bytes = sym (onto-at-none at out) ∙ c .is }
 
@@ -53,35 +53,11 @@ loop-holds c =
       is = refl;
     }
 
-sub-left : tie.Need-sub-left Inv-loop μ-loop
-sub-left c = omega arith
-
-cast-out : tie.Need-cast-out Inv-loop μ-loop
-cast-out c = omega arith
-
-add-out : tie.Need-add-out Inv-loop μ-loop
-add-out c = omega arith
-
-add-out-2 : tie.Need-add-out-2 Inv-loop μ-loop
-add-out-2 c = omega arith
-
-slice-write-out : tie.Need-slice-write-out Inv-loop μ-loop
-slice-write-out c = omega arith
-
-loop-less : tie.Need-loop-less Inv-loop μ-loop
-loop-less c = omega arith
-
 loop-again : tie.Need-loop-again Inv-loop μ-loop
 loop-again c =
     let l = c .before .loop .left in
     let e : l ≡ suc (l - 1) = omega arith in
     turn (c .before .loop .rest) (l - 1) (rw e at (c .before .loop .inv))
-
-add-result : tie.Need-add-result Inv-loop μ-loop
-add-result c = omega arith
-
-same-length : tie.Need-same-length Inv-loop μ-loop
-same-length c = omega arith
 
 returns : tie.Need-returns Inv-loop μ-loop
 returns c =
@@ -95,13 +71,13 @@ write-last-digits-spec =
     Inv-loop
     μ-loop
     loop-holds
-    sub-left
-    cast-out
-    add-out
-    add-out-2
-    slice-write-out
-    loop-less
+    (λ c. omega arith)
+    (λ c. omega arith)
+    (λ c. omega arith)
+    (λ c. omega arith)
+    (λ c. omega arith)
+    (λ c. omega arith)
     loop-again
-    add-result
-    same-length
+    (λ c. omega arith)
+    (λ c. omega arith)
     returns)

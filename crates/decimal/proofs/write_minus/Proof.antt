@@ -1,22 +1,22 @@
 -- `decimal::write_minus` meets its contract: one byte below zero, and none from zero on.
 -- Assumes nothing.
-use mathlib.Core.Path.{_≡_}
-use mathlib.Core.List.{[], _∷_}
 use Prim.Native.Nat.{_<_}
-use native.Mathlib.Omega.{arith}
+use borrow.Author.Needs.{needs}
 use denote.Ref.{now}
 use lib.ListN.{length}
+use mathlib.Core.List.{[], _∷_}
+use mathlib.Core.Path.{_≡_}
 use mir.Facts.{toZ-ofZ}
-use borrow.Author.Needs.{needs}
+use native.Mathlib.Omega.{arith}
 use Rattle.buffer.specs.Buffer.{Room}
 use Rattle.buffer.specs.WroteLaws.{wrote-none, wrote-one}
-use Rattle.decimal.specs.Decimal.{minus}
+use Rattle.decimal.specs.Decimal.{minusSign}
 use Rattle.decimal.specs.DigitLaws.{minus-below-zero, minus-from-zero}
 use Rattle.decimal.proofs.write_minus.Statement.{statement}
 use Rattle.decimal.proofs.write_minus.Tie as tie
 
 module _ (c : tie.Then1) where
-  below : minus (c .before .args .x) ≡ 45 ∷ []
+  below : minusSign (c .before .args .x) ≡ 45 ∷ []
   below = let f = c .before .fits .x in minus-below-zero (c .before .args .x) (simp toZ-ofZ at (c .if1 .taken))
 
   inside : c .before .args .at < length (now (c .before .args .out))

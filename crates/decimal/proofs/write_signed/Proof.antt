@@ -1,30 +1,30 @@
 -- `decimal::write_signed` meets its contract: the sign, then the digits of the size.
 -- Assumes nothing.
-use mathlib.Core.List.{_++_}
-use native.Mathlib.Omega.{arith}
+use borrow.Author.Needs.{needs}
 use denote.Ref.{now}
 use lib.IntN.{natAbs}
-use mir.Syntax.{w64}
+use mathlib.Core.List.{_++_}
 use mir.Facts.{toZ-ofZ}
-use borrow.Author.Needs.{needs}
+use mir.Syntax.{w64}
+use native.Mathlib.Omega.{arith}
 use Rattle.buffer.specs.Buffer.{Room, Wrote}
 use Rattle.buffer.specs.WroteLaws.{room-front, room-next, wrote-then}
-use Rattle.decimal.specs.Decimal.{digits, minus, signed}
+use Rattle.decimal.specs.Decimal.{decimalDigits, minusSign, signedDecimal}
 use Rattle.decimal.proofs.write_signed.Statement.{statement}
 use Rattle.decimal.proofs.write_signed.Tie as tie
 
-room : (s : tie.Start) → Room (minus (s .args .x) ++ digits (natAbs (s .args .x))) (s .args .at) (now (s .args .out))
-unfolding signed
+room : (s : tie.Start) → Room (minusSign (s .args .x) ++ decimalDigits (natAbs (s .args .x))) (s .args .at) (now (s .args .out))
+unfolding signedDecimal
 room s = s .pre
 
 -- the sign is written
-sign : (c : tie.After-write-minus) → let s = c .before .before .before in Wrote (minus (s .args .x)) (s .args .at) (now (s .args .out)) (c .write-minus .result) (c .write-minus .last .1 .1 .0)
+sign : (c : tie.After-write-minus) → let s = c .before .before .before in Wrote (minusSign (s .args .x)) (s .args .at) (now (s .args .out)) (c .write-minus .result) (c .write-minus .last .1 .1 .0)
 sign c = rw (toZ-ofZ {w = w64} (c .before .before .before .fits .x)) at (c .write-minus .ensures)
 
 write-minus-requires : tie.Need-write-minus-requires
 write-minus-requires c κs =
     let s = c .before .before in
-    rw (toZ-ofZ {w = w64} (s .fits .x)) (room-front (digits (natAbs (s .args .x))) (room s))
+    rw (toZ-ofZ {w = w64} (s .fits .x)) (room-front (decimalDigits (natAbs (s .args .x))) (room s))
 
 write-unsigned-requires : tie.Need-write-unsigned-requires
 write-unsigned-requires c κs =
@@ -33,7 +33,7 @@ write-unsigned-requires c κs =
     rw (c .before .magnitude .ensures, toZ-ofZ {w = w64} (s .fits .x)) (room-next (room s) (sign m))
 
 returns : tie.Need-returns
-unfolding signed
+unfolding signedDecimal
 returns c =
     let m = c .before .before .before .before .before .before .before in
     let s = m .before .before .before in

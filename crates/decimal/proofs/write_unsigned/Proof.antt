@@ -1,16 +1,16 @@
 -- `decimal::write_unsigned` meets its contract: the digits of x are its last digits, as many as x has.
 -- Assumes nothing.
-use mathlib.Core.Path.{_≡_, sym, ap, _∙_}
 use Prim.Native.Nat.{ℕ}
-use lib.ListN.{length}
 use borrow.Author.Needs.{needs}
-use Rattle.decimal.specs.Decimal.{digits, last-digits}
+use lib.ListN.{length}
+use mathlib.Core.Path.{_≡_, sym, ap, _∙_}
+use Rattle.decimal.specs.Decimal.{decimalDigits, lastDigits}
 use Rattle.decimal.specs.DigitLaws.{digits-last}
 use Rattle.decimal.proofs.write_unsigned.Statement.{statement}
 use Rattle.decimal.proofs.write_unsigned.Tie as tie
 
-as-last : (x k : ℕ) → k ≡ length (digits x) → digits x ≡ last-digits k x
-as-last x k e = digits-last x ∙ ap (λ (m : ℕ). last-digits m x) (sym e)
+as-last : (x k : ℕ) → k ≡ length (decimalDigits x) → decimalDigits x ≡ lastDigits k x
+as-last x k e = digits-last x ∙ ap (λ (m : ℕ). lastDigits m x) (sym e)
 
 write-last-digits-requires : tie.Need-write-last-digits-requires
 write-last-digits-requires c κs =

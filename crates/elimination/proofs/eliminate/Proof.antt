@@ -1,49 +1,49 @@
 -- `elimination::eliminate` meets its contract. The steps' invariant: the state is that after k steps. The rows' invariant: the search from
 -- here on finds the pivot. Where it ends with zero, all later steps leave the state as it is. Assumes nothing.
-use mathlib.Core.Path.{_≡_, refl, sym, ap, _∙_}
-use mathlib.Core.Logic.{⊎-elim}
-use mathlib.Core.List.{List, []}
 use Prim.Native.Nat.{ℕ, _+_, _-_, _<_, _≤_}
-use native.Mathlib.Omega.{arith}
 use borrow.Author.Needs.{needs}
 use lib.IntN.{ℤ, natAbs}
+use mathlib.Core.List.{List, []}
+use mathlib.Core.Logic.{⊎-elim}
+use mathlib.Core.Path.{_≡_, refl, sym, ap, _∙_}
 use mir.Facts.{toZ-ofZ}
-use Rattle.elimination.specs.Matrix.{at}
-use Rattle.elimination.specs.Steps.{pivot-from, pivot-row, exchange, eliminated-below, Run, largest, advanced, after-steps, eliminated}
-use Rattle.elimination.specs.Conditions.{Pivoted}
-use Rattle.elimination.specs.Laws.{exchange-same}
-use Rattle.elimination.specs.Pivot.{pivot-best, pivot-up, pivot-stay, pivot-done}
+use native.Mathlib.Omega.{arith}
 use Rattle.elimination.specs.Bounds.{last-step}
-use Rattle.elimination.specs.Runs.{after-none, after-more, advanced-step, stays}
+use Rattle.elimination.specs.Conditions.{Pivoted}
 use Rattle.elimination.specs.Factors.{kept, kept-pivoted}
+use Rattle.elimination.specs.Laws.{exchange-same}
+use Rattle.elimination.specs.Matrix.{at}
 use Rattle.elimination.specs.Outcome.{outcome, Eliminates}
-use Rattle.elimination.specs.declared.Elimination.{Elimination}
 use Rattle.elimination.specs.OutcomeLaws.{steps-zero-pivot, steps-complete}
+use Rattle.elimination.specs.Pivot.{pivot-best, pivot-up, pivot-stay, pivot-done}
+use Rattle.elimination.specs.Runs.{after-none, after-more, advanced-step, stays}
+use Rattle.elimination.specs.Steps.{pivotFrom, pivotRow, exchange, eliminatedBelow, Run, largest, nextRun, afterSteps, eliminated}
+use Rattle.elimination.specs.declared.Elimination.{Elimination}
 use Rattle.elimination.proofs.eliminate.Statement.{statement}
 use Rattle.elimination.proofs.eliminate.Tie as tie
 
 -- the state of the code
 abbrev state : List (List ℤ) → List ℕ → ℕ → Run
-state w places k = record { rows = w; order = places; steps = k }
+state w places k = record { working = w; order = places; steps = k }
 
 record Made (n : ℕ) (a : List ℤ) (w : List (List ℤ)) (places : List ℕ) (k : ℕ) : Type 0 where
   few : k ≤ n
-  is : after-steps n a k ≡ state w places k
+  is : afterSteps n a k ≡ state w places k
 
 record Searched (w : List (List ℤ)) (k n pivot size i : ℕ) : Type 0 where
   some : i ≤ n
   inside : pivot < n
   size-is : size ≡ natAbs (at w pivot k)
-  rest : pivot-from w k pivot i (n - i) ≡ pivot-row w k n
+  rest : pivotFrom w k pivot i (n - i) ≡ pivotRow w k n
 
 -- one step more
 made-more : {n k p : ℕ} {a : List ℤ} {w w₁ : List (List ℤ)} {places places₁ : List ℕ}
-    → Made n a w places k → k < n → 0 < largest n (state w places k) → p ≡ pivot-row w k n
-    → w₁ ≡ eliminated-below (exchange [] w k p) k n → places₁ ≡ exchange 0 places k p → Made n a w₁ places₁ (k + 1)
+    → Made n a w places k → k < n → 0 < largest n (state w places k) → p ≡ pivotRow w k n
+    → w₁ ≡ eliminatedBelow (exchange [] w k p) k n → places₁ ≡ exchange 0 places k p → Made n a w₁ places₁ (k + 1)
 made-more {n} {k} {p} {a} {w} {w₁} {places} m h l e f g =
     record {
       few = omega arith;
-      is = after-more n a k ∙ ap (advanced n) (m .is) ∙ advanced-step n (state w places k) l ∙ rw (f, g, e);
+      is = after-more n a k ∙ ap (nextRun n) (m .is) ∙ advanced-step n (state w places k) l ∙ rw (f, g, e);
     }
 
 -- the last step, which changes nothing: its pivot is its own row, and no row is below
@@ -55,8 +55,8 @@ made-last {n} {k} {a} {w} {places} m h o l =
 
 -- what is left when the steps are over
 leaves : {n : ℕ} {a : List ℤ} {r : Run} {answer : Elimination} → eliminated n a ≡ r → answer ≡ outcome n (r .steps)
-    → Eliminates n a answer (r .rows) (r .order)
-leaves e p = record { answer-is = rw e p; rows-are = rw e; order-is = rw e }
+    → Eliminates n a answer (r .working) (r .order)
+leaves e p = record { refusal-is = rw (e, p); step-is = rw (e, p); working-is = rw e; order-is = rw e }
 
 -- one candidate more, which is larger or not
 module _ {w : List (List ℤ)} {k n pivot size i next : ℕ} (s : Searched w k n pivot size i) (h : i < n) (e : next ≡ natAbs (at w i k)) where
@@ -79,20 +79,20 @@ module _ {w : List (List ℤ)} {k n pivot size i next : ℕ} (s : Searched w k n
       }
 
 abbrev Inv-rows : tie.InvT-rows
-Inv-rows n coefficients rows order k pivot₀ largest₀ i₀ pivot largest i = Searched rows k n pivot largest i
+Inv-rows n coefficients working order k pivot₀ largest₀ i₀ pivot largest i = Searched working k n pivot largest i
 
 abbrev μ-rows : tie.MeasureT-rows
-μ-rows n coefficients rows order k pivot₀ largest₀ i₀ pivot largest i = n - i
+μ-rows n coefficients working order k pivot₀ largest₀ i₀ pivot largest i = n - i
 
 abbrev Inv-steps : tie.InvT-steps
-Inv-steps n coefficients rows₀ order₀ k₀ rows order k = Made n coefficients rows order k
+Inv-steps n coefficients working₀ order₀ k₀ working order k = Made n coefficients working order k
 
 abbrev μ-steps : tie.MeasureT-steps
-μ-steps n coefficients rows₀ order₀ k₀ rows order k = n - k
+μ-steps n coefficients working₀ order₀ k₀ working order k = n - k
 
 -- once the rows are looked through, the pivot is found
 module _ {w : List (List ℤ)} {k n pivot size i : ℕ} (s : Searched w k n pivot size i) (h : n ≤ i) where
-  pivot-is : pivot ≡ pivot-row w k n
+  pivot-is : pivot ≡ pivotRow w k n
   pivot-is = sym (pivot-done w k pivot i n h) ∙ s .rest
 
   size-largest : (places : List ℕ) → largest n (state w places k) ≡ size
@@ -106,23 +106,8 @@ steps-holds c =
     let s = c .before .before .before .before in
     record { few = omega arith; is = after-none (s .args .n) (s .args .coefficients .now) ∙ rw (← c .before .fill-rows .ensures .are) }
 
-mul-magnitude : tie.Need-mul-magnitude Inv-rows μ-rows Inv-steps μ-steps
-mul-magnitude c = omega arith
-
-mul-magnitude-2 : tie.Need-mul-magnitude-2 Inv-rows μ-rows Inv-steps μ-steps
-mul-magnitude-2 c = omega arith
-
-index-1-magnitude : tie.Need-index-1-magnitude Inv-rows μ-rows Inv-steps μ-steps
-index-1-magnitude c = omega arith
-
-index-2-magnitude : tie.Need-index-2-magnitude Inv-rows μ-rows Inv-steps μ-steps
-index-2-magnitude c = omega arith
-
-add-i : tie.Need-add-i Inv-rows μ-rows Inv-steps μ-steps
-add-i c = omega arith
-
 rows-holds : tie.Need-rows-holds Inv-rows μ-rows Inv-steps μ-steps
-unfolding pivot-row
+unfolding pivotRow
 rows-holds c =
     record {
       some = omega arith;
@@ -130,24 +115,6 @@ rows-holds c =
       size-is = rw (toZ-ofZ (record { sfits = c .before .magnitude-arg .given })) at (c .magnitude .ensures);
       rest = refl;
     }
-
-mul-magnitude-3 : tie.Need-mul-magnitude-3 Inv-rows μ-rows Inv-steps μ-steps
-mul-magnitude-3 c = omega arith
-
-mul-magnitude-4 : tie.Need-mul-magnitude-4 Inv-rows μ-rows Inv-steps μ-steps
-mul-magnitude-4 c = omega arith
-
-index-1-magnitude-2 : tie.Need-index-1-magnitude-2 Inv-rows μ-rows Inv-steps μ-steps
-index-1-magnitude-2 c = omega arith
-
-index-2-magnitude-2 : tie.Need-index-2-magnitude-2 Inv-rows μ-rows Inv-steps μ-steps
-index-2-magnitude-2 c = omega arith
-
-add-i-2 : tie.Need-add-i-2 Inv-rows μ-rows Inv-steps μ-steps
-add-i-2 c = omega arith
-
-rows-less : tie.Need-rows-less Inv-rows μ-rows Inv-steps μ-steps
-rows-less c = omega arith
 
 rows-again : tie.Need-rows-again Inv-rows μ-rows Inv-steps μ-steps
 rows-again c =
@@ -167,7 +134,7 @@ module _ (c : tie.Else2 Inv-rows μ-rows Inv-steps μ-steps) where
   n′ = head .before .before .before .before .before .args .n
 
   abbrev w′ : List (List ℤ)
-  w′ = head .steps .rows
+  w′ = head .steps .working
 
   abbrev places′ : List ℕ
   places′ = head .steps .order
@@ -175,7 +142,7 @@ module _ (c : tie.Else2 Inv-rows μ-rows Inv-steps μ-steps) where
   abbrev k′ : ℕ
   k′ = head .steps .k
 
-  pivot-found : c .before .before .rows .pivot ≡ pivot-row w′ k′ n′
+  pivot-found : c .before .before .rows .pivot ≡ pivotRow w′ k′ n′
   pivot-found = let r = c .before .before in pivot-is (r .rows .inv) (omega arith)
 
   nonzero : 0 < largest n′ (state w′ places′ k′)
@@ -183,7 +150,7 @@ module _ (c : tie.Else2 Inv-rows μ-rows Inv-steps μ-steps) where
       let r = c .before .before in
       omega (arith, size-largest (r .rows .inv) (omega arith) places′, c .if2 .left)
 
-  ready : Pivoted (exchange [] w′ k′ (pivot-row w′ k′ n′)) k′ n′
+  ready : Pivoted (exchange [] w′ k′ (pivotRow w′ k′ n′)) k′ n′
   ready =
       let s = head .before .before .before .before .before in
       let f = head .before .before .fill-rows .ensures in
@@ -192,20 +159,8 @@ module _ (c : tie.Else2 Inv-rows μ-rows Inv-steps μ-steps) where
       (rw (head .steps .inv .is) at (kept n′ (s .args .coefficients .now) (s .pre) b k′ (omega arith)))
       nonzero
 
-add-if4 : tie.Need-add-if4 Inv-rows μ-rows Inv-steps μ-steps
-add-if4 c = omega arith
-
 step-requires : tie.Need-step-requires Inv-rows μ-rows Inv-steps μ-steps
 step-requires c κs = let e = c .before .before in (omega arith, rw (pivot-found e) (ready e))
-
-exchange-places-requires : tie.Need-exchange-places-requires Inv-rows μ-rows Inv-steps μ-steps
-exchange-places-requires c κs = omega arith
-
-add-k : tie.Need-add-k Inv-rows μ-rows Inv-steps μ-steps
-add-k c = omega arith
-
-steps-less : tie.Need-steps-less Inv-rows μ-rows Inv-steps μ-steps
-steps-less c = omega arith
 
 steps-again : tie.Need-steps-again Inv-rows μ-rows Inv-steps μ-steps
 steps-again c =
@@ -223,16 +178,16 @@ module _ (c : tie.Left-steps Inv-rows μ-rows Inv-steps μ-steps) where
   abbrev a′ : List ℤ
   a′ = last .before .before .before .before .before .args .coefficients .now
 
-  whole : eliminated (last .before .before .before .before .before .args .n) a′ ≡ state (last .steps .rows) (last .steps .order) (last .steps .k)
+  whole : eliminated (last .before .before .before .before .before .args .n) a′ ≡ state (last .steps .working) (last .steps .order) (last .steps .k)
   unfolding eliminated
   whole =
       let d = last in
       let n = d .before .before .before .before .before .args .n in
       ⊎-elim
-      (λ t. let e : n ≡ d .steps .k = omega (arith, t .left, d .steps .inv .few) in ap (after-steps n a′) e ∙ d .steps .inv .is)
+      (λ t. let e : n ≡ d .steps .k = omega (arith, t .left, d .steps .inv .few) in ap (afterSteps n a′) e ∙ d .steps .inv .is)
       (λ t. stays n a′ (d .steps .k) n (d .steps .inv .few)
       (rw (d .steps .inv .is)
-      (size-largest {w = d .steps .rows} {k = d .steps .k} {n = n} {pivot = t .3 .pivot} {size = t .3 .largest} {i = t .3 .i}
+      (size-largest {w = d .steps .working} {k = d .steps .k} {n = n} {pivot = t .3 .pivot} {size = t .3 .largest} {i = t .3 .i}
       (t .3 .inv) (omega (arith, t .4 .taken)) (d .steps .order) ∙ t .5 .taken))
       ∙ d .steps .inv .is)
       (c .steps-test .came)
@@ -253,26 +208,26 @@ eliminate-spec =
     μ-steps
     fill-rows-requires
     steps-holds
-    mul-magnitude
-    mul-magnitude-2
-    index-1-magnitude
-    index-2-magnitude
+    (λ c. omega arith)
+    (λ c. omega arith)
+    (λ c. omega arith)
+    (λ c. omega arith)
     (λ c κs. search needs)
-    add-i
+    (λ c. omega arith)
     rows-holds
-    mul-magnitude-3
-    mul-magnitude-4
-    index-1-magnitude-2
-    index-2-magnitude-2
+    (λ c. omega arith)
+    (λ c. omega arith)
+    (λ c. omega arith)
+    (λ c. omega arith)
     (λ c κs. search needs)
-    add-i-2
-    rows-less
+    (λ c. omega arith)
+    (λ c. omega arith)
     rows-again
-    add-if4
+    (λ c. omega arith)
     step-requires
-    exchange-places-requires
-    add-k
-    steps-less
+    (λ c κs. omega arith)
+    (λ c. omega arith)
+    (λ c. omega arith)
     steps-again
     returns
     returns-2)

@@ -1,26 +1,28 @@
 -- `elimination::eliminate_row` meets its contract. The invariant: the columns so far are reduced, so that the others are as they were. Each
 -- signed local holds bits, from which the laws of the bounds read its number back. Assumes nothing.
-use mathlib.Core.Path.{_≡_, sym, ap, _∙_}
-use mathlib.Core.List.{List}
 use Prim.Native.Nat.{ℕ, _+_, _-_, _<_, _≤_}
-use native.Mathlib.Omega.{arith}
 use borrow.Author.Needs.{needs}
-use lib.ListN.{getD, set}
 use lib.IntN.{ℤ, pos, _*ℤ_}
+use lib.ListN.{getD, set}
+use mathlib.Core.List.{List}
+use mathlib.Core.Path.{_≡_, sym, ap, _∙_}
+use mir.Facts.{toZ-ofZ}
 use mir.Syntax.{w64}
 use mir.Val.{SFits, toZ, ofZ}
-use mir.Facts.{toZ-ofZ}
+use native.Mathlib.Omega.{arith}
 use Rattle.integers.specs.Size.{sfits-size}
-use Rattle.integers.specs.Tables.{fill, fill-none, fill-next, fill-left}
+use Rattle.integers.specs.TableLaws.{fill-next, fill-left, fill-none}
+use Rattle.integers.specs.Tables.{fill}
 use Rattle.rounding.specs.Round.{rnd}
-use Rattle.elimination.specs.Steps.{multiplier, reduced, eliminated-row}
+use Rattle.rounding.specs.Scale.{multiplierScale}
 use Rattle.elimination.specs.Bounds.{top-le, row-le, dividing, multiplier-le, product-le, loss-le, reduced-le}
+use Rattle.elimination.specs.Steps.{multiplier, reducedEntry, eliminatedRow}
 use Rattle.elimination.proofs.eliminate_row.Statement.{statement}
 use Rattle.elimination.proofs.eliminate_row.Tie as tie
 
 abbrev Inv-loop : tie.InvT-loop
 Inv-loop top row₀ k n m j₀ row j =
-    (j ≤ n) × (k < j) × (row ≡ fill (reduced (multiplier top row₀ k) top row₀) (k + 1) (j - (k + 1)) row₀)
+    (j ≤ n) × (k < j) × (row ≡ fill (reducedEntry (multiplier top row₀ k) top row₀) (k + 1) (j - (k + 1)) row₀)
 
 abbrev μ-loop : tie.MeasureT-loop
 μ-loop top row₀ k n m j₀ row j = n - j
@@ -51,23 +53,11 @@ module _ (c : tie.Start Inv-loop μ-loop) where
   product-fits : (j : ℕ) → SFits w64 (m′ *ℤ top′ j)
   product-fits j = sfits-size (omega (arith, product-le _ _ _ _ (c .pre) j))
 
-  loss-fits : (j : ℕ) → SFits w64 (rnd (m′ *ℤ top′ j) (pos 16384))
+  loss-fits : (j : ℕ) → SFits w64 (rnd (m′ *ℤ top′ j) (pos multiplierScale))
   loss-fits j = sfits-size (omega (arith, loss-le _ _ _ _ (c .pre) j))
 
-  reduced-fits : (j : ℕ) → SFits w64 (reduced m′ (c .args .top .now) (c .args .row .now) j)
+  reduced-fits : (j : ℕ) → SFits w64 (reducedEntry m′ (c .args .top .now) (c .args .row .now) j)
   reduced-fits j = sfits-size (omega (arith, reduced-le _ _ _ _ (c .pre) j))
-
-mul-multiplier-of : tie.Need-mul-multiplier-of Inv-loop μ-loop
-mul-multiplier-of c = omega arith
-
-element-copy-out-multiplier-of : tie.Need-element-copy-out-multiplier-of Inv-loop μ-loop
-element-copy-out-multiplier-of c = omega arith
-
-mul-multiplier-of-2 : tie.Need-mul-multiplier-of-2 Inv-loop μ-loop
-mul-multiplier-of-2 c = omega arith
-
-element-copy-out-multiplier-of-2 : tie.Need-element-copy-out-multiplier-of-2 Inv-loop μ-loop
-element-copy-out-multiplier-of-2 c = omega arith
 
 multiplier-of-requires : tie.Need-multiplier-of-requires Inv-loop μ-loop
 multiplier-of-requires c κs =
@@ -82,25 +72,10 @@ module _ (c : tie.After-multiplier-of Inv-loop μ-loop) where
       let e = rw (toZ-ofZ (row-fits s (k′ s)), toZ-ofZ (top-fits s (k′ s))) at (c .multiplier-of .ensures) in
       rw e (toZ-ofZ (multiplier-fits s))
 
-add-j : tie.Need-add-j Inv-loop μ-loop
-add-j c = omega arith
-
 loop-holds : tie.Need-loop-holds Inv-loop μ-loop
 loop-holds c =
     let s = c .before .before .before in
     (omega arith, omega arith, sym (fill-none _ (k′ s + 1) (k′ s + 1) (s .args .row .now) (omega arith)))
-
-mul-row : tie.Need-mul-row Inv-loop μ-loop
-mul-row c = omega arith
-
-element-copy-out-row : tie.Need-element-copy-out-row Inv-loop μ-loop
-element-copy-out-row c = omega arith
-
-mul-rounded-by-scale : tie.Need-mul-rounded-by-scale Inv-loop μ-loop
-mul-rounded-by-scale c = omega arith
-
-element-copy-out-rounded-by-scale : tie.Need-element-copy-out-rounded-by-scale Inv-loop μ-loop
-element-copy-out-rounded-by-scale c = omega arith
 
 mul-rounded-by-scale-2 : tie.Need-mul-rounded-by-scale-2 Inv-loop μ-loop
 mul-rounded-by-scale-2 c =
@@ -116,7 +91,7 @@ module _ (c : tie.After-rounded-by-scale Inv-loop μ-loop) where
   abbrev entry : tie.Start Inv-loop μ-loop
   entry = turn .before .before .before .before
 
-  loss-is : toZ w64 (ofZ w64 (c .rounded-by-scale .result)) ≡ rnd (m′ entry *ℤ top′ entry (turn .loop .j)) (pos 16384)
+  loss-is : toZ w64 (ofZ w64 (c .rounded-by-scale .result)) ≡ rnd (m′ entry *ℤ top′ entry (turn .loop .j)) (pos multiplierScale)
   loss-is =
       let s = entry in
       let j = turn .loop .j in
@@ -136,18 +111,6 @@ sub-row c =
     let s = entry c in
     rw (still d, toZ-ofZ (row-fits s (d .loop .j)), loss-is c) (reduced-fits s (d .loop .j))
 
-mul-t27 : tie.Need-mul-t27 Inv-loop μ-loop
-mul-t27 c = omega arith
-
-element-set-from-row : tie.Need-element-set-from-row Inv-loop μ-loop
-element-set-from-row c = omega arith
-
-add-j-2 : tie.Need-add-j-2 Inv-loop μ-loop
-add-j-2 c = omega arith
-
-loop-less : tie.Need-loop-less Inv-loop μ-loop
-loop-less c = omega arith
-
 loop-again : tie.Need-loop-again Inv-loop μ-loop
 loop-again c =
     let d = turn c in
@@ -156,18 +119,12 @@ loop-again c =
       omega arith,
       omega arith,
       rw (still d, toZ-ofZ (row-fits s j), loss-is c, toZ-ofZ (reduced-fits s j))
-          (ap (λ (l : List ℤ). set l j (reduced (m′ s) (s .args .top .now) (s .args .row .now) j)) (d .loop .inv .2)
+          (ap (λ (l : List ℤ). set l j (reducedEntry (m′ s) (s .args .top .now) (s .args .row .now) j)) (d .loop .inv .2)
           ∙ fill-next _ (k′ s + 1) j (s .args .row .now) (omega arith)),
     )
 
-mul-m : tie.Need-mul-m Inv-loop μ-loop
-mul-m c = omega arith
-
-element-set-from-m : tie.Need-element-set-from-m Inv-loop μ-loop
-element-set-from-m c = omega arith
-
 returns : tie.Need-returns Inv-loop μ-loop
-unfolding eliminated-row
+unfolding eliminatedRow
 returns c =
     let d = c .before in
     let s = d .before .before .before .before in
@@ -180,25 +137,25 @@ eliminate-row-spec =
     (tie.spec
     Inv-loop
     μ-loop
-    mul-multiplier-of
-    element-copy-out-multiplier-of
-    mul-multiplier-of-2
-    element-copy-out-multiplier-of-2
+    (λ c. omega arith)
+    (λ c. omega arith)
+    (λ c. omega arith)
+    (λ c. omega arith)
     multiplier-of-requires
-    add-j
+    (λ c. omega arith)
     loop-holds
-    mul-row
-    element-copy-out-row
-    mul-rounded-by-scale
-    element-copy-out-rounded-by-scale
+    (λ c. omega arith)
+    (λ c. omega arith)
+    (λ c. omega arith)
+    (λ c. omega arith)
     mul-rounded-by-scale-2
     (λ c κs. search needs)
     sub-row
-    mul-t27
-    element-set-from-row
-    add-j-2
-    loop-less
+    (λ c. omega arith)
+    (λ c. omega arith)
+    (λ c. omega arith)
+    (λ c. omega arith)
     loop-again
-    mul-m
-    element-set-from-m
+    (λ c. omega arith)
+    (λ c. omega arith)
     returns)

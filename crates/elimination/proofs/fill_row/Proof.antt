@@ -1,27 +1,28 @@
 -- `elimination::fill_row` meets its contract. The invariant: the columns so far are filled, and the row is within the bound. A coefficient's
 -- range is told where it is read. Assumes nothing.
-use mathlib.Core.Path.{_≡_, sym, ap, _∙_}
-use mathlib.Core.List.{List}
 use Prim.Native.Nat.{ℕ, _+_, _*_, _-_, _^_, _<_, _≤_}
-use native.Mathlib.Nat.{mul-le-mul}
-use native.Mathlib.Omega.{arith}
-use lib.ListN.{getD, set}
 use lib.IntN.{ℤ, pos, _*ℤ_}
+use lib.ListN.{getD, set}
+use mathlib.Core.List.{List}
+use mathlib.Core.Path.{_≡_, sym, ap, _∙_}
+use mir.Facts.{toZ-ofZ}
 use mir.Syntax.{w16}
 use mir.Val.{SFits}
-use mir.Facts.{toZ-ofZ}
+use native.Mathlib.Nat.{mul-le-mul}
+use native.Mathlib.Omega.{arith}
 use Rattle.limits.specs.Limits.{mostTanks, mostCoefficients}
-use Rattle.integers.specs.Size.{at-most, bounds, product-ok, size-sfits, sfits-by}
 use Rattle.integers.specs.Signed.{wide-fits, wide-is}
-use Rattle.integers.specs.Tables.{fill, fill-none, fill-next, Within, zeros-within, within-set}
-use Rattle.elimination.specs.Steps.{scaled, working-row}
+use Rattle.integers.specs.Size.{at-most, bounds, product-ok, size-sfits, sfits-by}
+use Rattle.integers.specs.TableLaws.{fill-next, fill-none, zeros-within, within-set}
+use Rattle.integers.specs.Tables.{fill, Within}
 use Rattle.elimination.specs.Conditions.{bound}
-use Rattle.elimination.specs.Start.{zero-row}
+use Rattle.elimination.specs.Steps.{workingScale, scaledCoefficient, workingRow}
+use Rattle.elimination.specs.Steps.{zeroRow}
 use Rattle.elimination.proofs.fill_row.Statement.{statement}
 use Rattle.elimination.proofs.fill_row.Tie as tie
 
 abbrev Inv-loop : tie.InvT-loop
-Inv-loop n coefficients i row₀ j₀ row j = (j ≤ n) × Within (bound 0) row × (row ≡ fill (scaled n coefficients i) 0 (j - 0) zero-row)
+Inv-loop n coefficients i row₀ j₀ row j = (j ≤ n) × Within (bound 0) row × (row ≡ fill (scaledCoefficient n coefficients i) 0 (j - 0) zeroRow)
 
 abbrev μ-loop : tie.MeasureT-loop
 μ-loop n coefficients i row₀ j₀ row j = n - j
@@ -30,7 +31,7 @@ loop-holds : tie.Need-loop-holds Inv-loop μ-loop
 loop-holds c = (
   omega arith,
   rw (c .pre .2) (zeros-within mostTanks),
-  c .pre .2 ∙ sym (fill-none (scaled (c .args .n) (c .args .coefficients .now) (c .args .i)) 0 0 zero-row (omega arith)),
+  c .pre .2 ∙ sym (fill-none (scaledCoefficient (c .args .n) (c .args .coefficients .now) (c .args .i)) 0 0 zeroRow (omega arith)),
 )
 
 -- the index of a coefficient
@@ -67,18 +68,6 @@ mul-row-3 c =
     let z = at-most (figure c) (2 ^ 15) (size-sfits (range c)) in
     rw (wide-is w16 tt (figure c) (range c)) (sfits-by (search bounds) tt)
 
-mul-t15 : tie.Need-mul-t15 Inv-loop μ-loop
-mul-t15 c = omega arith
-
-element-set-from-row : tie.Need-element-set-from-row Inv-loop μ-loop
-element-set-from-row c = omega arith
-
-add-j : tie.Need-add-j Inv-loop μ-loop
-add-j c = omega arith
-
-loop-less : tie.Need-loop-less Inv-loop μ-loop
-loop-less c = omega arith
-
 loop-again : tie.Need-loop-again Inv-loop μ-loop
 loop-again c =
     let d = c .before .before in
@@ -87,19 +76,19 @@ loop-again c =
     let f = range c in
     rw (toZ-ofZ (mul-row-3 c), wide-is w16 tt z f) (
       omega arith,
-      within-set (d .loop .row) (d .loop .j) (pos 256 *ℤ z) (product-ok (pos 256) z 256 (2 ^ 15) (omega arith) (size-sfits f)) (d .loop .inv .1),
-      ap (λ (l : List ℤ). set l (d .loop .j) (pos 256 *ℤ z)) (d .loop .inv .2)
-          ∙ fill-next (scaled (s .n) (s .coefficients .now) (s .i)) 0 (d .loop .j) zero-row (omega arith),
+      within-set (d .loop .row) (d .loop .j) (pos workingScale *ℤ z) (product-ok (pos workingScale) z workingScale (2 ^ 15) (omega arith) (size-sfits f)) (d .loop .inv .1),
+      ap (λ (l : List ℤ). set l (d .loop .j) (pos workingScale *ℤ z)) (d .loop .inv .2)
+          ∙ fill-next (scaledCoefficient (s .n) (s .coefficients .now) (s .i)) 0 (d .loop .j) zeroRow (omega arith),
     )
 
 returns : tie.Need-returns Inv-loop μ-loop
-unfolding working-row
+unfolding workingRow
 returns c =
     let d = c .before in
     let s = d .before .args in
     let e : d .loop .j - 0 ≡ s .n = omega arith in
     record {
-      is = d .loop .inv .2 ∙ ap (λ (m : ℕ). fill (scaled (s .n) (s .coefficients .now) (s .i)) 0 m zero-row) e;
+      is = d .loop .inv .2 ∙ ap (λ (m : ℕ). fill (scaledCoefficient (s .n) (s .coefficients .now) (s .i)) 0 m zeroRow) e;
       within = d .loop .inv .1;
     }
 
@@ -116,9 +105,9 @@ fill-row-spec =
     element-copy-out-row
     cast-row
     mul-row-3
-    mul-t15
-    element-set-from-row
-    add-j
-    loop-less
+    (λ c. omega arith)
+    (λ c. omega arith)
+    (λ c. omega arith)
+    (λ c. omega arith)
     loop-again
     returns)

@@ -1,10 +1,10 @@
 -- `elimination::multiplier_of` meets its contract: the dividend is at most 2^44, and the result at most 16,384. Assumes nothing.
-use mathlib.Core.Path.{ap, _∙_}
-use native.Mathlib.Omega.{arith}
 use lib.IntN.{ℤ}
+use mathlib.Core.Path.{ap, _∙_}
+use mir.Facts.{toZ-ofZ}
 use mir.Syntax.{w64}
 use mir.Val.{SFits, toZ, ofZ}
-use mir.Facts.{toZ-ofZ}
+use native.Mathlib.Omega.{arith}
 use Rattle.integers.specs.Size.{natAbs-*ℤ, sfits-size}
 use Rattle.rounding.specs.Laws.{defined}
 use Rattle.elimination.specs.Bounds.{divided-le}

@@ -1,19 +1,20 @@
 -- `fields::check_field` meets its contract: each test that was made is the definition's test at that place.
 -- Assumes nothing.
 use Prim.Native.Nat.{ℕ, _+_, _-_}
-use native.Mathlib.Omega.{arith}
-use native.Mathlib.Nat.{add-zero}
+use borrow.Author.Needs.{needs}
+use borrow.Author.Tests.{le-leb, lt-leb, eq-eqb, ne-eqb}
+use denote.Ref.{now}
+use lib.Dec.{leb, eqb}
+use lib.ListN.{length, getD, take, drop, length-drop}
+use lib.Seq.{getD-drop, drop-drop}
 use mathlib.Core.Bool.{Bool}
 use mathlib.Core.List.{List}
 use mathlib.Core.Path.{_≡_, refl, sym, _∙_}
-use lib.ListN.{length, getD, take, drop, length-drop}
-use lib.Seq.{getD-drop, drop-drop}
-use lib.Dec.{leb, eqb}
-use denote.Ref.{now}
-use borrow.Author.Tests.{le-leb, lt-leb, eq-eqb, ne-eqb}
+use native.Mathlib.Nat.{add-zero}
+use native.Mathlib.Omega.{arith}
+use Rattle.outcome.specs.Outcome.{statusNumber}
 use Rattle.bigendian.specs.Number.{be}
 use Rattle.fields.specs.Field.{lengthAt, lengthSize, headerSize, inTurn, fieldStatus}
-use borrow.Author.Needs.{needs}
 use Rattle.fields.proofs.check_field.Statement.{statement}
 use Rattle.fields.proofs.check_field.Tie as tie
 
@@ -30,7 +31,7 @@ module _ (c : tie.Start) where
       → eqb (getD s at 0) (c .args .tag) ≡ b2
       → eqb (be (take lengthSize (drop (at + lengthAt) s))) (c .args .len) ≡ b3
       → leb (c .args .len) (length s - at - headerSize) ≡ b4
-      → inTurn b1 b2 b3 b4 ≡ fieldStatus (c .args .tag) (c .args .len) (drop at s)
+      → statusNumber (inTurn b1 b2 b3 b4) ≡ statusNumber (fieldStatus (c .args .tag) (c .args .len) (drop at s))
   unfolding fieldStatus
   at-place e1 e2 e3 e4 = rw (length-drop at s, getD-drop at s 0 0, add-zero at, drop-drop lengthAt at s, e1, e2, e3, e4)
 

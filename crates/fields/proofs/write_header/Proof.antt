@@ -1,21 +1,21 @@
 -- `fields::write_header` meets its contract: the tag, then the length behind it.
 -- Assumes nothing.
-use native.Mathlib.Omega.{arith}
-use mathlib.Core.List.{[], _∷_}
-use mathlib.Core.Path.{refl}
+use borrow.Author.Needs.{needs}
+use denote.Ref.{now}
 use lib.ListN.{length-set}
 use lib.Seq.{sets-eq}
-use denote.Ref.{now}
-use Rattle.bigendian.specs.Number.{bytes}
+use mathlib.Core.List.{[], _∷_}
+use mathlib.Core.Path.{refl}
+use native.Mathlib.Omega.{arith}
 use Rattle.buffer.specs.WroteLaws.{onto-two}
+use Rattle.bigendian.specs.Number.{beBytes}
 use Rattle.fields.specs.Field.{lengthSize}
-use borrow.Author.Needs.{needs}
 use Rattle.fields.proofs.write_header.Statement.{statement}
 use Rattle.fields.proofs.write_header.Tie as tie
 
 returns : tie.Need-returns
 returns c = let a = c .before .before .before .before .before .args in
-    onto-two (a .tag ∷ []) (bytes lengthSize (a .len)) (now (a .out)) (sets-eq (a .tag ∷ []) (now (a .out)) 0 (omega arith)) refl (c .before .before .write-u16 .ensures)
+    onto-two (a .tag ∷ []) (beBytes lengthSize (a .len)) (now (a .out)) (sets-eq (a .tag ∷ []) (now (a .out)) 0 (omega arith)) refl (c .before .before .write-u16 .ensures)
 
 pub write-header-spec : {M : Type 1} → statement M
 write-header-spec =

@@ -1,19 +1,19 @@
 -- `figures::all_i16` meets its contract: the law of testing loops, for signed figures.
 -- Assumes nothing.
 use Prim.Native.Nat.{_-_}
-use native.Mathlib.Omega.{arith}
-use lib.IntN.{ℤ, pos}
 use denote.Ref.{now}
+use lib.IntN.{ℤ, pos}
 use lib.ListN.{length, getD}
 use mir.Syntax.{w16}
+use native.Mathlib.Omega.{arith}
 use Rattle.integers.specs.Signed.{wide-fits}
-use Rattle.figures.specs.Figures.{within}
+use Rattle.figures.specs.Figures.{withinLimit}
 use Rattle.figures.specs.LoopLaws.{tested, Testing, test-begun, test-turn, test-ended}
 use Rattle.figures.proofs.all_i16.Statement.{statement}
 use Rattle.figures.proofs.all_i16.Tie as tie
 
 abbrev Inv-loop : tie.InvT-loop
-Inv-loop a limit fine₀ i₀ fine i = Testing (within limit) a fine i
+Inv-loop a limit fine₀ i₀ fine i = Testing (withinLimit limit) a fine i
 
 abbrev μ-loop : tie.MeasureT-loop
 μ-loop a limit fine₀ i₀ fine i = length a - i

@@ -1,16 +1,16 @@
 -- `figures::all_u16` meets its contract: the law of testing loops, for unsigned figures.
 -- Assumes nothing.
-use mathlib.Core.Path.{refl}
 use Prim.Native.Nat.{_-_}
-use native.Mathlib.Omega.{arith}
 use lib.ListN.{length}
-use Rattle.figures.specs.Figures.{upTo}
+use mathlib.Core.Path.{refl}
+use native.Mathlib.Omega.{arith}
+use Rattle.figures.specs.Figures.{upToLimit}
 use Rattle.figures.specs.LoopLaws.{Testing, test-begun, test-turn, test-ended}
 use Rattle.figures.proofs.all_u16.Statement.{statement}
 use Rattle.figures.proofs.all_u16.Tie as tie
 
 abbrev Inv-loop : tie.InvT-loop
-Inv-loop a limit fine₀ i₀ fine i = Testing (upTo limit) a fine i
+Inv-loop a limit fine₀ i₀ fine i = Testing (upToLimit limit) a fine i
 
 abbrev μ-loop : tie.MeasureT-loop
 μ-loop a limit fine₀ i₀ fine i = length a - i

@@ -1,18 +1,18 @@
 -- `figures::read_i16s` meets its contract: the law of reading loops, for signed figures.
 -- Assumes nothing.
 use Prim.Native.Nat.{_-_}
-use native.Mathlib.Omega.{arith}
 use lib.ListN.{length, length-set}
-use mir.Syntax.{w16}
 use mir.Facts.{toZ-ofZ}
+use mir.Syntax.{w16}
+use native.Mathlib.Omega.{arith}
 use Rattle.integers.specs.Signed.{wide-fits}
-use Rattle.figures.specs.Figures.{i16, within}
+use Rattle.figures.specs.Figures.{i16Kind, withinLimit}
 use Rattle.figures.specs.LoopLaws.{tested, ReadingFigures, read-begun, read-next, read-turn, read-ended}
 use Rattle.figures.proofs.read_i16s.Statement.{statement}
 use Rattle.figures.proofs.read_i16s.Tie as tie
 
 abbrev Inv-loop : tie.InvT-loop
-Inv-loop s at limit out₀ fine₀ i₀ p₀ out fine i p = ReadingFigures i16 (within limit) s at out₀ fine out i p
+Inv-loop s at limit out₀ fine₀ i₀ p₀ out fine i p = ReadingFigures i16Kind (withinLimit limit) s at out₀ fine out i p
 
 abbrev μ-loop : tie.MeasureT-loop
 μ-loop s at limit out₀ fine₀ i₀ p₀ out fine i p = length out - i

@@ -1,18 +1,18 @@
 -- `figures::read_i32s` meets its contract: the law of reading loops, for signed figures.
 -- Assumes nothing.
 use Prim.Native.Nat.{_-_}
-use native.Mathlib.Omega.{arith}
 use lib.ListN.{length, length-set}
-use mir.Syntax.{w32}
 use mir.Facts.{toZ-ofZ}
+use mir.Syntax.{w32}
+use native.Mathlib.Omega.{arith}
 use Rattle.integers.specs.Signed.{wide-fits}
-use Rattle.figures.specs.Figures.{i32, within}
+use Rattle.figures.specs.Figures.{i32Kind, withinLimit}
 use Rattle.figures.specs.LoopLaws.{tested, ReadingFigures, read-begun, read-next, read-turn, read-ended}
 use Rattle.figures.proofs.read_i32s.Statement.{statement}
 use Rattle.figures.proofs.read_i32s.Tie as tie
 
 abbrev Inv-loop : tie.InvT-loop
-Inv-loop s at limit out₀ fine₀ i₀ p₀ out fine i p = ReadingFigures i32 (within limit) s at out₀ fine out i p
+Inv-loop s at limit out₀ fine₀ i₀ p₀ out fine i p = ReadingFigures i32Kind (withinLimit limit) s at out₀ fine out i p
 
 abbrev μ-loop : tie.MeasureT-loop
 μ-loop s at limit out₀ fine₀ i₀ p₀ out fine i p = length out - i

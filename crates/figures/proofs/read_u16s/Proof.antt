@@ -1,17 +1,17 @@
 -- `figures::read_u16s` meets its contract: the law of reading loops, for unsigned figures.
 -- Assumes nothing.
-use mathlib.Core.Path.{refl}
 use Prim.Native.Nat.{_-_}
-use native.Mathlib.Omega.{arith}
 use borrow.Author.Needs.{needs}
 use lib.ListN.{length, length-set}
-use Rattle.figures.specs.Figures.{u16, upTo}
+use mathlib.Core.Path.{refl}
+use native.Mathlib.Omega.{arith}
+use Rattle.figures.specs.Figures.{u16Kind, upToLimit}
 use Rattle.figures.specs.LoopLaws.{ReadingFigures, read-begun, read-next, read-turn, read-ended}
 use Rattle.figures.proofs.read_u16s.Statement.{statement}
 use Rattle.figures.proofs.read_u16s.Tie as tie
 
 abbrev Inv-loop : tie.InvT-loop
-Inv-loop s at limit out₀ fine₀ i₀ p₀ out fine i p = ReadingFigures u16 (upTo limit) s at out₀ fine out i p
+Inv-loop s at limit out₀ fine₀ i₀ p₀ out fine i p = ReadingFigures u16Kind (upToLimit limit) s at out₀ fine out i p
 
 abbrev μ-loop : tie.MeasureT-loop
 μ-loop s at limit out₀ fine₀ i₀ p₀ out fine i p = length out - i

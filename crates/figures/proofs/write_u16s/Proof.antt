@@ -1,20 +1,20 @@
 -- `figures::write_u16s` meets its contract: the law of writing loops, for unsigned figures.
 -- Assumes nothing.
 use Prim.Native.Nat.{_-_}
-use native.Mathlib.Omega.{arith}
 use lib.ListN.{length}
-use Rattle.bigendian.specs.NumberLaws.{length-bytes}
+use native.Mathlib.Omega.{arith}
 use Rattle.buffer.specs.RunLaws.{run-begun, run-next, run-turn-lent}
-use Rattle.figures.specs.Figures.{u16}
+use Rattle.bigendian.specs.NumberLaws.{length-bytes}
+use Rattle.figures.specs.Figures.{u16Kind}
 use Rattle.figures.specs.LoopLaws.{WritingFigures, write-ended}
 use Rattle.figures.proofs.write_u16s.Statement.{statement}
 use Rattle.figures.proofs.write_u16s.Tie as tie
 
 abbrev Inv-loop : tie.InvT-loop
-Inv-loop out₀ a i₀ p₀ out i p = WritingFigures u16 0 a out₀ out i p
+Inv-loop a out₀ i₀ p₀ out i p = WritingFigures u16Kind 0 a out₀ out i p
 
 abbrev μ-loop : tie.MeasureT-loop
-μ-loop out₀ a i₀ p₀ out i p = length a - i
+μ-loop a out₀ i₀ p₀ out i p = length a - i
 
 add-p : tie.Need-add-p Inv-loop μ-loop
 add-p c = let n = run-next (c .before .before .before .before .before .before .loop .inv) (c .before .before .before .before .before .loop-test .taken) in
@@ -30,10 +30,10 @@ write-u16s-spec =
     Inv-loop
     μ-loop
     (λ c. run-begun (omega arith))
-    (λ c. let n = run-next (c .before .loop .inv) (c .loop-test .taken) in omega arith)
-    (λ c. let n = run-next (c .before .loop .inv) (c .loop-test .taken) in omega arith)
     (λ c. omega arith)
     (λ c. omega arith)
+    (λ c. let n = run-next (c .before .before .loop .inv) (c .before .loop-test .taken) in omega arith)
+    (λ c. let n = run-next (c .before .before .loop .inv) (c .before .loop-test .taken) in omega arith)
     (λ c. omega arith)
     (λ c κs. let n = run-next (c .before .before .before .loop .inv) (c .before .before .loop-test .taken) in omega arith)
     (λ c. omega arith)

@@ -1,19 +1,19 @@
 -- `fractions::compare` meets its contract, in one proof with its own call. The measure is the smaller denominator: at the call each denominator
 -- is a remainder by one of the old ones, so both are smaller than it. Assumes nothing.
-use mathlib.Core.Path.{sym, _∙_}
-use mathlib.Core.Logic.{inl, inr}
-use native.Mathlib.Nat.{mod-lt}
-use native.Mathlib.Omega.{arith}
-use Rattle.fractions.specs.Laws.{order-less, order-greater, by-quotient, by-remainder}
 use Prim.Native.Nat.{ℕ, min, _<_}
 use borrow.Fn.Kinds.{In}
 use borrow.Fn.PlainCycle.{Measures, is, falls, and}
-use Rattle.fractions.proofs.compare.Reads as compare
-use Rattle.fractions.proofs.compare.Kinds as compare-kinds
-use Rattle.fractions.proofs.+compare.Lts-compare as compare-lts
-use Rattle.fractions.proofs.compare_zero.Reads as compare-zero-reads
+use mathlib.Core.Logic.{inl, inr}
+use mathlib.Core.Path.{sym, _∙_}
+use native.Mathlib.Nat.{mod-lt}
+use native.Mathlib.Omega.{arith}
+use Rattle.fractions.specs.Laws.{order-less, order-greater, by-quotient, by-remainder}
 use Rattle.fractions.proofs.+compare.{statement}
+use Rattle.fractions.proofs.+compare.Lts-compare as compare-lts
 use Rattle.fractions.proofs.+compare.Tie.{close}
+use Rattle.fractions.proofs.compare.Kinds as compare-kinds
+use Rattle.fractions.proofs.compare.Reads as compare
+use Rattle.fractions.proofs.compare_zero.Reads as compare-zero-reads
 
 abbrev μ-compare : Measures 0 compare-kinds.ps ℕ
 μ-compare κs a = min (a .1 .0) (a .1 .1 .1 .0)

@@ -1,7 +1,7 @@
 -- `fractions::compare_zero` meets its contract: where a denominator is 0, one of the two cross products is 0 or a numerator. Assumes nothing.
-use mathlib.Core.Path.{_≡_, sym}
-use mathlib.Core.Logic.{_⊎_, inl, inr}
 use Prim.Native.Nat.{ℕ}
+use mathlib.Core.Logic.{_⊎_, inl, inr}
+use mathlib.Core.Path.{_≡_, sym}
 use native.Mathlib.Nat.{mul-pos}
 use native.Mathlib.Omega.{arith}
 use Rattle.fractions.specs.Laws.{order-less, order-equal, order-greater, numerator-base, proper-base}

@@ -1,21 +1,21 @@
 -- `integers::magnitude` meets its contract: for x below 0, the size of -(x + 1) and one more is that of x. Assumes nothing.
-use mathlib.Core.Path.{_≡_}
 use Prim.Native.Nat.{_+_}
-use native.Mathlib.Omega.{arith}
-use lib.IntN.{ℤ, pos, _+ℤ_, _-ℤ_, natAbs}
+use borrow.Author.Needs.{needs}
 use lib.Dec.{T}
+use lib.IntN.{ℤ, pos, _+ℤ_, _-ℤ_, natAbs}
 use lib.Signed.{nonNeg, _<ℤ_}
+use mathlib.Core.Path.{_≡_}
+use mir.Facts.{toZ-ofZ}
 use mir.Syntax.{w64}
 use mir.Val.{SFits}
-use mir.Facts.{toZ-ofZ}
-use borrow.Author.Needs.{needs}
+use native.Mathlib.Omega.{arith}
 use Rattle.integers.specs.Diff.{size-parts, add-parts, sub-parts}
 use Rattle.integers.specs.Order.{ints, tests}
 use Rattle.integers.specs.Size.{fits}
+use Rattle.integers.proofs.magnitude.Lts as lts
+use Rattle.integers.proofs.magnitude.Reads as reads
 use Rattle.integers.proofs.magnitude.Statement.{statement}
 use Rattle.integers.proofs.magnitude.Tie as tie
-use Rattle.integers.proofs.magnitude.Reads as reads
-use Rattle.integers.proofs.magnitude.Lts as lts
 
 -- in ℤ, for x below 0
 module _ (x : ℤ) (fx : SFits w64 x) (neg : x <ℤ pos 0) where

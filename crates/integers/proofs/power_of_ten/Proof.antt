@@ -1,11 +1,11 @@
 -- `integers::power_of_ten` meets its contract: each entry of the table is its power.
 -- Assumes nothing.
-use mathlib.Core.Path.{_≡_, refl}
-use mathlib.Core.List.{[], _∷_}
 use Prim.Native.Nat.{ℕ, zero, suc, _^_, _<_}
-use native.Mathlib.Omega.{arith}
-use lib.ListN.{getD}
 use borrow.Author.Needs.{needs}
+use lib.ListN.{getD}
+use mathlib.Core.List.{[], _∷_}
+use mathlib.Core.Path.{_≡_, refl}
+use native.Mathlib.Omega.{arith}
 use Rattle.integers.proofs.power_of_ten.Statement.{statement}
 use Rattle.integers.proofs.power_of_ten.Tie as tie
 

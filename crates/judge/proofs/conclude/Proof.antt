@@ -1,16 +1,16 @@
 -- `judge::conclude` meets its contract: the deciding row is one of the eight places, and whether it has a factor is read off there. Assumes nothing.
-use mathlib.Core.Path.{_≡_}
 use Prim.Native.Nat.{_<_}
-use native.Mathlib.Omega.{arith}
-use lib.ListN.{getD}
+use borrow.Author.Needs.{needs}
 use lib.IntN.{pos}
+use lib.ListN.{getD}
+use mathlib.Core.Path.{_≡_}
+use mir.Facts.{toZ-ofZ}
 use mir.Syntax.{w64}
 use mir.Val.{SFits}
-use mir.Facts.{toZ-ofZ}
-use borrow.Author.Needs.{needs}
+use native.Mathlib.Omega.{arith}
 use Rattle.limits.specs.Limits.{mostTanks}
-use Rattle.fractions.specs.Greatest.{first-greatest-below}
-use Rattle.judge.specs.Judgement.{deciding-place}
+use Rattle.fractions.specs.GreatestLaws.{first-greatest-below}
+use Rattle.judge.specs.Judgement.{decidingPlace}
 use Rattle.judge.specs.Laws.{conclusion}
 use Rattle.judge.proofs.conclude.Statement.{statement}
 use Rattle.judge.proofs.conclude.Tie as tie
@@ -19,8 +19,8 @@ module _ (c : tie.After-greatest-factor) where
   abbrev begun : tie.Start
   begun = c .before .before .before .before
 
-  place-is : c .greatest-factor .result ≡ deciding-place (begun .args .n) (begun .args .t2)
-  unfolding deciding-place
+  place-is : c .greatest-factor .result ≡ decidingPlace (begun .args .n) (begun .args .t2)
+  unfolding decidingPlace
   place-is = c .greatest-factor .ensures
 
   place : c .greatest-factor .result < mostTanks

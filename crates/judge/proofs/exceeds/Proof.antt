@@ -1,6 +1,6 @@
 -- `judge::exceeds` meets its contract: the two factors are fractions of the magnitudes. Assumes nothing.
-use mir.Facts.{toZ-ofZ}
 use borrow.Author.Needs.{needs}
+use mir.Facts.{toZ-ofZ}
 use Rattle.judge.proofs.exceeds.Statement.{statement}
 use Rattle.judge.proofs.exceeds.Tie as tie
 

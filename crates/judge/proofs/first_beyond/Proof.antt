@@ -1,28 +1,28 @@
 -- `judge::first_beyond` meets its contract. The loop's invariant: no row below i is unmet. Assumes nothing.
-use mathlib.Core.Path.{_≡_, sym, _∙_}
-use mathlib.Core.Bool.{Bool, true, false}
-use mathlib.Core.List.{List}
 use Prim.Native.Nat.{ℕ, _+_, _-_, _≤_}
-use native.Mathlib.Numerals.{add-one}
-use native.Mathlib.Omega.{arith}
-use lib.ListN.{getD}
-use lib.IntN.{ℤ, pos, natAbs}
-use mir.Syntax.{w64}
-use mir.Val.{SFits}
-use mir.Facts.{toZ-ofZ}
 use borrow.Author.Needs.{needs}
 use borrow.Author.Tests.{le-leb, lt-leb}
-use Rattle.judge.specs.Judgement.{within, first-not}
+use lib.IntN.{ℤ, pos, natAbs}
+use lib.ListN.{getD}
+use mathlib.Core.Bool.{Bool, true, false}
+use mathlib.Core.List.{List}
+use mathlib.Core.Path.{_≡_, sym, _∙_}
+use mir.Facts.{toZ-ofZ}
+use mir.Syntax.{w64}
+use mir.Val.{SFits}
+use native.Mathlib.Numerals.{add-one}
+use native.Mathlib.Omega.{arith}
+use Rattle.judge.specs.Judgement.{rowMet, firstNot}
 use Rattle.judge.specs.Laws.{first-not-more, first-not-here, first-not-stays}
 use Rattle.judge.proofs.first_beyond.Statement.{statement}
 use Rattle.judge.proofs.first_beyond.Tie as tie
 
 -- the test of row i
 abbrev test : List ℤ → List ℕ → ℕ → Bool
-test residuals reaches i = within (getD residuals i (pos 0)) (getD reaches i 0)
+test residuals reaches i = rowMet (getD residuals i (pos 0)) (getD reaches i 0)
 
 abbrev Inv-loop : tie.InvT-loop
-Inv-loop n residuals reaches i₀ i = (i ≤ n) × (first-not (test residuals reaches) i ≡ 0)
+Inv-loop n residuals reaches i₀ i = (i ≤ n) × (firstNot (test residuals reaches) i ≡ 0)
 
 abbrev μ-loop : tie.MeasureT-loop
 μ-loop n residuals reaches i₀ i = n - i
@@ -43,7 +43,7 @@ module _ (c : tie.After-magnitude Inv-loop μ-loop) where
       simp toZ-ofZ at (c .magnitude .ensures)
 
 loop-holds : tie.Need-loop-holds Inv-loop μ-loop
-unfolding first-not
+unfolding firstNot
 loop-holds c = search needs
 
 returns : tie.Need-returns Inv-loop μ-loop

@@ -1,19 +1,20 @@
 -- `judge::greatest_factor` meets its contract. The loop's invariant: the place held is that of the first greatest factor below i. Assumes nothing.
-use mathlib.Core.Path.{_≡_, sym, ap, _∙_}
-use mathlib.Core.Logic.{⊎-elim}
+use Prim.Native.Nat.{ℕ, zero, suc, _+_, _-_, _≤_, _<_, max}
+use borrow.Author.Needs.{needs}
+use lib.IntN.{ℤ, pos}
+use lib.ListN.{getD}
 use mathlib.Core.Bool.{Bool, true, false, cond}
 use mathlib.Core.List.{List}
-use Prim.Native.Nat.{ℕ, zero, suc, _+_, _-_, _≤_, _<_, max}
-use native.Mathlib.Omega.{arith}
-use lib.ListN.{getD}
-use lib.IntN.{ℤ, pos}
+use mathlib.Core.Logic.{⊎-elim}
+use mathlib.Core.Path.{_≡_, sym, ap, _∙_}
+use mir.Facts.{toZ-ofZ}
 use mir.Syntax.{w64}
 use mir.Val.{SFits}
-use mir.Facts.{toZ-ofZ}
-use borrow.Author.Needs.{needs}
+use native.Mathlib.Omega.{arith}
 use Rattle.limits.specs.Limits.{mostTanks}
 use Rattle.fractions.specs.Fraction.{Fraction, order}
-use Rattle.fractions.specs.Greatest.{is-greater, first-greatest, first-greatest-none, first-greatest-one, first-greatest-next}
+use Rattle.fractions.specs.Greatest.{isGreater, firstGreatest}
+use Rattle.fractions.specs.GreatestLaws.{first-greatest-none, first-greatest-one, first-greatest-next}
 use Rattle.judge.specs.Judgement.{factor}
 use Rattle.judge.proofs.greatest_factor.Statement.{statement}
 use Rattle.judge.proofs.greatest_factor.Tie as tie
@@ -23,7 +24,7 @@ factors residuals reaches i = factor (getD residuals i (pos 0)) (getD reaches i 
 
 abbrev Inv-loop : tie.InvT-loop
 Inv-loop n residuals reaches best₀ i₀ best i =
-    (1 ≤ i) × (i ≤ max 1 n) × (best < mostTanks) × (best ≡ first-greatest (factors residuals reaches) i)
+    (1 ≤ i) × (i ≤ max 1 n) × (best < mostTanks) × (best ≡ firstGreatest (factors residuals reaches) i)
 
 abbrev μ-loop : tie.MeasureT-loop
 μ-loop n residuals reaches best₀ i₀ best i = n - i
@@ -32,8 +33,8 @@ loop-holds : tie.Need-loop-holds Inv-loop μ-loop
 loop-holds c = (omega arith, omega arith, omega arith, sym (first-greatest-one (factors (c .args .residuals .now) (c .args .reaches .now))))
 
 -- one factor more
-next : (g : ℕ → Fraction) (i best : ℕ) (b : Bool) → best ≡ first-greatest g i → b ≡ is-greater (order (g i) (g best))
-    → cond b i best ≡ first-greatest g (i + 1)
+next : (g : ℕ → Fraction) (i best : ℕ) (b : Bool) → best ≡ firstGreatest g i → b ≡ isGreater (order (g i) (g best))
+    → cond b i best ≡ firstGreatest g (i + 1)
 next g i best b e h = rw (first-greatest-next g i, ← e, ← h)
 
 module _ (c : tie.After-exceeds Inv-loop μ-loop) where
@@ -52,7 +53,7 @@ module _ (c : tie.After-exceeds Inv-loop μ-loop) where
   fits-best : SFits w64 (getD (start .args .residuals .now) (at-loop .loop .best) (pos 0))
   fits-best = record { sfits = c .before .before .exceeds-arg3 .given }
 
-  next′ : cond (c .exceeds .result) (at-loop .loop .i) (at-loop .loop .best) ≡ first-greatest g′ (at-loop .loop .i + 1)
+  next′ : cond (c .exceeds .result) (at-loop .loop .i) (at-loop .loop .best) ≡ firstGreatest g′ (at-loop .loop .i + 1)
   next′ =
       let f = fits-at in
       let h = fits-best in
@@ -61,7 +62,7 @@ module _ (c : tie.After-exceeds Inv-loop μ-loop) where
 loop-again : tie.Need-loop-again Inv-loop μ-loop
 loop-again c =
     let l = at-loop (c .before) .loop in
-    let chosen : (b : Bool) → b ≡ c .before .exceeds .result → cond b (l .i) (l .best) ≡ first-greatest (g′ (c .before)) (l .i + 1) =
+    let chosen : (b : Bool) → b ≡ c .before .exceeds .result → cond b (l .i) (l .best) ≡ firstGreatest (g′ (c .before)) (l .i + 1) =
     λ b e. ap (λ b. cond b (l .i) (l .best)) e ∙ next′ (c .before) in
     ⊎-elim
     (λ w. (omega arith, omega arith, omega arith, w .1 ∙ chosen true (sym (w .0 .taken))))
@@ -69,7 +70,7 @@ loop-again c =
     (c .if1 .came)
 
 -- at the loop's end i is n, or 1 where n is 0
-last : (g : ℕ → Fraction) (n i : ℕ) → 1 ≤ i → i ≤ max 1 n → n ≤ i → first-greatest g i ≡ first-greatest g n
+last : (g : ℕ → Fraction) (n i : ℕ) → 1 ≤ i → i ≤ max 1 n → n ≤ i → firstGreatest g i ≡ firstGreatest g n
 last g zero i h k l = let e : i ≡ 1 = omega arith in rw e (first-greatest-one g ∙ sym (first-greatest-none g))
 last g (suc n) i h k l = let e : i ≡ suc n = omega arith in rw e
 

@@ -1,19 +1,11 @@
 -- `judge::judge` meets its contract: what the trial leaves of each row is its standing, and the judgement is concluded from that. Assumes nothing.
-use mathlib.Core.Path.{ap, _∙_}
-use lib.IntN.{pos}
 use borrow.Author.Needs.{needs}
-use Rattle.judge.specs.System.{trial}
+use mathlib.Core.Path.{ap, _∙_}
 use Rattle.judge.specs.Judgement.{judgement, concluded}
-use Rattle.judge.specs.Places.{zero-cleared}
 use Rattle.judge.specs.Laws.{measured-by-parts}
+use Rattle.judge.specs.System.{trial}
 use Rattle.judge.proofs.judge.Statement.{statement}
 use Rattle.judge.proofs.judge.Tie as tie
-
-fill-residuals-requires : tie.Need-fill-residuals-requires
-fill-residuals-requires c κs = (c .before .pre, zero-cleared (pos 0) (c .before .args .n))
-
-fill-reaches-requires : tie.Need-fill-reaches-requires
-fill-reaches-requires c κs = let b = c .before .before .before in (b .pre, zero-cleared 0 (b .args .n))
 
 returns : tie.Need-returns
 unfolding judgement
@@ -31,8 +23,8 @@ pub judge-spec : {M : Type 1} → statement M
 judge-spec =
     tie.close
     (tie.spec
-    fill-residuals-requires
-    fill-reaches-requires
+    (λ c κs. search needs)
+    (λ c κs. search needs)
     (λ c κs. search needs)
     (λ c κs. search needs)
     returns)

@@ -1,10 +1,10 @@
 -- `judge::lacks_factor` meets its contract, by its two tests. Assumes nothing.
-use mathlib.Core.Path.{_≡_}
-use mathlib.Core.Bool.{true, false}
-use lib.Dec.{eqb}
-use mir.Facts.{toZ-ofZ}
 use borrow.Author.Needs.{needs}
 use borrow.Author.Tests.{eq-eqb, ne-eqb}
+use lib.Dec.{eqb}
+use mathlib.Core.Bool.{true, false}
+use mathlib.Core.Path.{_≡_}
+use mir.Facts.{toZ-ofZ}
 use Rattle.judge.proofs.lacks_factor.Statement.{statement}
 use Rattle.judge.proofs.lacks_factor.Tie as tie
 

@@ -1,15 +1,16 @@
 -- `judge::row_reach` meets its contract. The loop's invariant: the accumulator is the sum of exactly the terms so far, each of which is at most
 -- 2 ^ 47. Assumes nothing.
-use mathlib.Core.Path.{_≡_, ap, ap₂, _∙_}
 use Prim.Native.Nat.{ℕ, _+_, _*_, _-_, _^_, _≤_}
-use native.Mathlib.Omega.{arith}
-use lib.ListN.{getD}
+use borrow.Author.Needs.{needs}
 use lib.IntN.{ℤ, pos, natAbs}
+use lib.ListN.{getD}
+use mathlib.Core.Path.{_≡_, ap, ap₂, _∙_}
+use mir.Facts.{toZ-ofZ}
 use mir.Syntax.{w32}
 use mir.Val.{SFits}
-use mir.Facts.{toZ-ofZ}
-use borrow.Author.Needs.{needs}
-use Rattle.integers.specs.Sums.{total, total-more}
+use native.Mathlib.Omega.{arith}
+use Rattle.integers.specs.SumLaws.{total-more}
+use Rattle.integers.specs.Sums.{total}
 use Rattle.judge.proofs.row_reach.Statement.{statement}
 use Rattle.judge.proofs.row_reach.Tie as tie
 

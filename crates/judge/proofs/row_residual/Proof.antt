@@ -1,17 +1,18 @@
 -- `judge::row_residual` meets its contract. The loop's invariant: after each tank the running sum is that of exactly the products so far, each of
 -- which is below 2 ^ 46 by the types of its factors. Assumes nothing.
-use mathlib.Core.Path.{_≡_, ap, _∙_}
 use Prim.Native.Nat.{ℕ, _+_, _*_, _-_, _^_, _≤_}
-use native.Mathlib.Omega.{arith}
-use lib.ListN.{getD}
+use borrow.Author.Needs.{needs}
 use lib.IntN.{ℤ, pos, natAbs, _+ℤ_, _*ℤ_}
+use lib.ListN.{getD}
+use mathlib.Core.Path.{_≡_, ap, _∙_}
+use mir.Facts.{toZ-ofZ}
 use mir.Syntax.{w16, w32, w64}
 use mir.Val.{SFits, toZ, ofZ}
-use mir.Facts.{toZ-ofZ}
-use borrow.Author.Needs.{needs}
-use Rattle.integers.specs.Size.{at-most, bounds, size-by, size-sfits, sfits-by, sfits-size, natAbs-+ℤ}
+use native.Mathlib.Omega.{arith}
 use Rattle.integers.specs.Signed.{wide-fits, wide-is}
-use Rattle.integers.specs.Sums.{sum, sum-more}
+use Rattle.integers.specs.Size.{at-most, bounds, size-by, size-sfits, sfits-by, sfits-size, natAbs-+ℤ}
+use Rattle.integers.specs.SumLaws.{sum-more}
+use Rattle.integers.specs.Sums.{sum}
 use Rattle.judge.proofs.row_residual.Statement.{statement}
 use Rattle.judge.proofs.row_residual.Tie as tie
 

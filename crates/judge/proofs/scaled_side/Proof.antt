@@ -1,12 +1,12 @@
 -- `judge::scaled_side` meets its contract: the product is at most 2 ^ 16 times 2 ^ 31, by the types of its factors. Assumes nothing.
-use mathlib.Core.Path.{_≡_, refl}
 use Prim.Native.Nat.{ℕ, _^_, _≤_}
-use native.Mathlib.Omega.{arith}
+use borrow.Author.Needs.{needs}
 use lib.IntN.{ℤ, pos, natAbs, _*ℤ_}
+use mathlib.Core.Path.{_≡_, refl}
+use mir.Facts.{toZ-ofZ, toZ-pos, sfits-widen}
 use mir.Syntax.{w64}
 use mir.Val.{SFits, toZ}
-use mir.Facts.{toZ-ofZ, toZ-pos, sfits-widen}
-use borrow.Author.Needs.{needs}
+use native.Mathlib.Omega.{arith}
 use Rattle.integers.specs.Size.{at-most, bounds, size-by, size-sfits, sfits-size}
 use Rattle.judge.proofs.scaled_side.Statement.{statement}
 use Rattle.judge.proofs.scaled_side.Tie as tie

@@ -1,9 +1,9 @@
 -- `judge::scaled_tolerance` meets its contract: the product is at most 2 ^ 16 times 2 ^ 32, by the types of its factors. Assumes nothing.
-use mathlib.Core.Path.{refl}
 use Prim.Native.Nat.{_*_, _^_, _≤_}
+use lib.Dec.{lit≤}
+use mathlib.Core.Path.{refl}
 use native.Mathlib.Nat.{mul-le-mul, le-trans}
 use native.Mathlib.Omega.{arith}
-use lib.Dec.{lit≤}
 use Rattle.judge.proofs.scaled_tolerance.Statement.{statement}
 use Rattle.judge.proofs.scaled_tolerance.Tie as tie
 

@@ -1,14 +1,14 @@
 -- `judge::weight` meets its contract: the product is at most 2 ^ 16 times 2 ^ 31, by the types of its factors. Assumes nothing.
-use mathlib.Core.Path.{_≡_, ap}
 use Prim.Native.Nat.{_*_, _^_, _≤_}
-use native.Mathlib.Nat.{mul-le-mul, le-trans}
-use native.Mathlib.Omega.{arith}
+use borrow.Author.Needs.{needs}
 use lib.Dec.{lit≤}
 use lib.IntN.{natAbs}
+use mathlib.Core.Path.{_≡_, ap}
+use mir.Facts.{toZ-ofZ, sfits-widen}
 use mir.Syntax.{w64}
 use mir.Val.{SFits}
-use mir.Facts.{toZ-ofZ, sfits-widen}
-use borrow.Author.Needs.{needs}
+use native.Mathlib.Nat.{mul-le-mul, le-trans}
+use native.Mathlib.Omega.{arith}
 use Rattle.integers.specs.Size.{size-sfits}
 use Rattle.judge.proofs.weight.Statement.{statement}
 use Rattle.judge.proofs.weight.Tie as tie

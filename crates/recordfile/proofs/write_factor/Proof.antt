@@ -1,11 +1,11 @@
 -- `recordfile::write_factor` meets its contract: the header, and the value's bytes stored behind it. Assumes nothing.
-use mathlib.Core.List.{[], _∷_}
-use native.Mathlib.Omega.{arith}
+use borrow.Author.Needs.{needs}
 use denote.Ref.{now}
 use lib.ListN.{length-set}
-use borrow.Author.Needs.{needs}
-use Rattle.recordfile.specs.Layout.{factorTag}
+use mathlib.Core.List.{[], _∷_}
+use native.Mathlib.Omega.{arith}
 use Rattle.recordfile.specs.Laws.{flag-stored}
+use Rattle.recordfile.specs.Layout.{factorTag}
 use Rattle.recordfile.proofs.write_factor.Statement.{statement}
 use Rattle.recordfile.proofs.write_factor.Tie as tie
 
@@ -14,7 +14,7 @@ returns c =
     let s = c .before .before .before .before .before .before in
     let a = s .args in
     let w = c .before .before .write-header in
-    flag-stored factorTag (a .none) (a .decides ∷ []) (now (a .out)) (w .last .0) (c .before .before .before .before .flag .ensures)
+    flag-stored factorTag (a .none) (a .decides ∷ []) (now (a .out)) _ (c .before .before .before .before .flag .ensures)
     (omega (arith, s .pre, w .kept)) (w .ensures)
 
 pub write-factor-spec : {M : Type 1} → statement M

@@ -1,29 +1,29 @@
 -- `recordfile::write_pairs` meets its contract. The loop's invariant: the pairs of the rows below i stand at the front. Assumes nothing.
 use Prim.Native.Nat.{_-_}
-use native.Mathlib.Omega.{arith}
-use lib.ListN.{getD}
+use borrow.Author.Needs.{needs}
 use lib.IntN.{pos}
+use lib.ListN.{getD}
+use mir.Facts.{toZ-ofZ}
 use mir.Syntax.{w64}
 use mir.Val.{SFits}
-use mir.Facts.{toZ-ofZ}
-use borrow.Author.Needs.{needs}
+use native.Mathlib.Omega.{arith}
 use Rattle.buffer.specs.RunLaws.{Running, run-begun, run-turn-lent, run-ended}
-use Rattle.recordfile.specs.Layout.{pairAt, pairSize}
 use Rattle.recordfile.specs.Laws.{length-pair}
+use Rattle.recordfile.specs.Layout.{pairAt, pairSize}
 use Rattle.recordfile.proofs.write_pairs.Statement.{statement}
 use Rattle.recordfile.proofs.write_pairs.Tie as tie
 
 abbrev Inv-loop : tie.InvT-loop
-Inv-loop out₀ n residuals reaches i₀ at₀ out i at = Running pairSize (pairAt residuals reaches) n 0 out₀ out i at
+Inv-loop n residuals reaches out₀ i₀ at₀ out i at = Running pairSize (pairAt residuals reaches) n 0 out₀ out i at
 
 abbrev μ-loop : tie.MeasureT-loop
-μ-loop out₀ n residuals reaches i₀ at₀ out i at = n - i
+μ-loop n residuals reaches out₀ i₀ at₀ out i at = n - i
 
 loop-again : tie.Need-loop-again Inv-loop μ-loop
 loop-again c =
     let l = c .before .before .before .before .before .before .before in
     let a = l .before .before .args in
-    let f : SFits w64 (getD (a .residuals .now) (l .loop .i) (pos 0)) = record { sfits = c .before .before .before .before .write-pair-arg2 .given } in
+    let f : SFits w64 (getD (a .residuals .now) (l .loop .i) (pos 0)) = record { sfits = c .before .before .before .before .before .write-pair-arg .given } in
     let e = simp toZ-ofZ at (c .before .before .write-pair .ensures) in
     run-turn-lent (l .loop .inv) (omega arith) (length-pair (a .residuals .now) (a .reaches .now) (l .loop .i)) e
 
@@ -34,13 +34,13 @@ write-pairs-spec =
     Inv-loop
     μ-loop
     (λ c. run-begun (omega arith))
-    (λ c. omega (arith, c .before .loop .inv))
-    (λ c. omega (arith, c .before .loop .inv))
+    (λ c. search needs)
+    (λ c. search needs)
+    (λ c. search needs)
+    (λ c. search needs)
+    (λ c. omega (arith, c .before .before .before .loop .inv))
+    (λ c. omega (arith, c .before .before .before .loop .inv))
     (λ c. omega arith)
-    (λ c. search needs)
-    (λ c. search needs)
-    (λ c. search needs)
-    (λ c. search needs)
     (λ c κs. omega (arith, c .before .before .before .before .loop .inv))
     (λ c. search needs)
     (λ c. omega (arith, c .before .before .before .before .before .before .before .loop .inv))

@@ -1,13 +1,13 @@
 -- `recordfile::write_record` meets its contract: the five fields, one behind the other. Assumes nothing.
-use mathlib.Core.Path.{refl}
-use mathlib.Core.List.{append-assoc, append-nil}
-use native.Mathlib.Omega.{arith}
-use denote.Ref.{now}
 use borrow.Author.Needs.{needs}
+use denote.Ref.{now}
+use mathlib.Core.List.{append-assoc, append-nil}
+use mathlib.Core.Path.{refl}
+use native.Mathlib.Omega.{arith}
 use Rattle.buffer.specs.WroteLaws.{wrote-same, wrote-front, wrote-more}
 use Rattle.fields.specs.Field.{endField}
-use Rattle.recordfile.specs.Layout.{verdictField, answerField, rowsField, factorField, recordOf}
 use Rattle.recordfile.specs.Laws.{ends, length-record}
+use Rattle.recordfile.specs.Layout.{verdictField, answerField, rowsField, factorField, recordOf}
 use Rattle.recordfile.proofs.write_record.Statement.{statement}
 use Rattle.recordfile.proofs.write_record.Tie as tie
 

@@ -1,10 +1,10 @@
 -- `recordfile::write_rows` meets its contract: the header, and the pairs behind it. Assumes nothing.
-use mathlib.Core.Path.{sym, _∙_}
-use denote.Ref.{now}
 use borrow.Author.Needs.{needs}
+use denote.Ref.{now}
+use mathlib.Core.Path.{sym, _∙_}
 use Rattle.fields.specs.FieldLaws.{field-written}
-use Rattle.recordfile.specs.Layout.{rowsTag}
 use Rattle.recordfile.specs.Laws.{length-pairs}
+use Rattle.recordfile.specs.Layout.{rowsTag}
 use Rattle.recordfile.proofs.write_rows.Statement.{statement}
 use Rattle.recordfile.proofs.write_rows.Tie as tie
 

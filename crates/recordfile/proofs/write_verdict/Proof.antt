@@ -1,11 +1,11 @@
 -- `recordfile::write_verdict` meets its contract: the header, and the value's bytes stored behind it. Assumes nothing.
-use mathlib.Core.List.{[], _∷_}
-use native.Mathlib.Omega.{arith}
+use borrow.Author.Needs.{needs}
 use denote.Ref.{now}
 use lib.ListN.{length-set}
-use borrow.Author.Needs.{needs}
-use Rattle.recordfile.specs.Layout.{verdictTag}
+use mathlib.Core.List.{[], _∷_}
+use native.Mathlib.Omega.{arith}
 use Rattle.recordfile.specs.Laws.{flag-stored}
+use Rattle.recordfile.specs.Layout.{verdictTag}
 use Rattle.recordfile.proofs.write_verdict.Statement.{statement}
 use Rattle.recordfile.proofs.write_verdict.Tie as tie
 
@@ -14,7 +14,7 @@ returns c =
     let s = c .before .before .before .before .before .before in
     let a = s .args in
     let w = c .before .before .write-header in
-    flag-stored verdictTag (a .met) (a .unmet ∷ a .rounds ∷ []) (now (a .out)) (w .last .0) (c .before .before .before .before .flag .ensures)
+    flag-stored verdictTag (a .met) (a .unmet ∷ a .rounds ∷ []) (now (a .out)) _ (c .before .before .before .before .flag .ensures)
     (omega (arith, s .pre, w .kept)) (w .ensures)
 
 pub write-verdict-spec : {M : Type 1} → statement M

@@ -1,53 +1,73 @@
--- `report::render` meets its contract: each refused input prints nothing, and any other one its whole text.
+-- `report::render` meets its contract: the verdict, the answers, the rows and the factor, one after another.
 -- Assumes nothing.
-use mathlib.Core.Path.{_≡_}
-use mathlib.Core.Bool.{true, false}
-use lib.ListN.{length}
-use lib.Dec.{leb}
+use Prim.Native.Nat.{_+_, _*_, _≤_}
 use borrow.Author.Needs.{needs}
-use borrow.Author.Tests.{le-leb, lt-leb}
-use denote.Ref.{now}
-use Rattle.limits.specs.Limits.{mostTanks, mostExponent}
-use Rattle.report.specs.Text.{text-room, printed}
-use Rattle.buffer.specs.WroteLaws.{wrote-none}
+use lib.ListN.{length}
+use native.Mathlib.Omega.{arith}
+use Rattle.limits.specs.Limits.{mostTanks}
+use Rattle.buffer.specs.WroteLaws.{wrote-then, wrote-last}
+use Rattle.report.specs.Text.{text, answerRoom, rowRoom, factorRoom}
 use Rattle.report.proofs.render.Statement.{statement}
 use Rattle.report.proofs.render.Tie as tie
 
--- the tests that were passed
-few-tanks : (c : tie.Else1) → leb (c .before .before .args .n) mostTanks ≡ true
-few-tanks c = le-leb _ _ (c .if1 .left)
+module _ (v : tie.After-write-verdict-line) where
+  abbrev start : tie.Start
+  start = v .before .before .before .before .before
 
-small-exponent : (c : tie.Else2) → leb (c .before .before .before .args .e) mostExponent ≡ true
-small-exponent c = le-leb _ _ (c .if2 .left)
+  after-verdict : v .write-verdict-line .result + (mostTanks * answerRoom + (mostTanks * rowRoom + factorRoom)) ≤ length (v .write-verdict-line .last .1 .1 .1 .1 .0)
+  after-verdict =
+      omega (arith, v .write-verdict-line .ensures .short, v .write-verdict-line .ensures .wrote .place, v .write-verdict-line .kept, start .pre .enough)
+
+module _ (a : tie.After-write-answers) where
+  abbrev verdict : tie.After-write-verdict-line
+  verdict = a .before .before .before .before
+
+  after-answers : a .write-answers .result + (mostTanks * rowRoom + factorRoom) ≤ length (a .write-answers .last .1 .1 .1 .1 .0)
+  after-answers =
+      omega (arith, a .write-answers .ensures .short, a .write-answers .ensures .wrote .place, a .write-answers .kept, start verdict .pre .tanks, after-verdict verdict)
+
+module _ (r : tie.After-write-rows) where
+  abbrev answers : tie.After-write-answers
+  answers = r .before .before .before .before .before .before
+
+  after-rows : r .write-rows .result + factorRoom ≤ length (r .write-rows .last .1 .1 .1 .1 .0)
+  after-rows =
+      omega (arith, r .write-rows .ensures .short, r .write-rows .ensures .wrote .place, r .write-rows .kept, start (verdict answers) .pre .tanks, after-answers answers)
+
+write-verdict-line-requires : tie.Need-write-verdict-line-requires
+write-verdict-line-requires c κs = omega (arith, c .before .before .before .before .pre .enough)
+
+write-answers-requires : tie.Need-write-answers-requires
+write-answers-requires c κs =
+    let v = c .before .before .before in
+    (start v .pre .tanks, (start v .pre .exponent-small, omega (arith, after-verdict v, start v .pre .tanks)))
+
+write-rows-requires : tie.Need-write-rows-requires
+write-rows-requires c κs =
+    let a = c .before .before .before .before .before in
+    (start (verdict a) .pre .tanks, omega (arith, after-answers a, start (verdict a) .pre .tanks))
+
+write-factor-line-requires : tie.Need-write-factor-line-requires
+write-factor-line-requires c κs = after-rows (c .before .before .before)
 
 returns : tie.Need-returns
-unfolding printed
+unfolding text
 returns c =
-    let g = c .before .before .args in
-    let t : leb (g .n) mostTanks ≡ false = lt-leb _ _ (c .if1 .taken) in
-    rw t (wrote-none 0)
-
-returns-2 : tie.Need-returns-2
-unfolding printed
-returns-2 c =
-    let g = c .before .before .before .args in
-    let t : leb (g .e) mostExponent ≡ false = lt-leb _ _ (c .if2 .taken) in
-    rw (few-tanks (c .before), t) (wrote-none 0)
-
-returns-3 : tie.Need-returns-3
-unfolding printed
-returns-3 c =
-    let g = c .before .before .before .before .args in
-    let t : leb text-room (length (now (g .out))) ≡ false = lt-leb _ _ (c .if3 .taken) in
-    rw (few-tanks (c .before .before), small-exponent (c .before), t) (wrote-none 0)
-
-returns-4 : tie.Need-returns-4
-unfolding printed
-returns-4 c =
-    let i = c .before .before .before .before in
-    let t : leb text-room (length (now (i .before .before .before .before .args .out))) ≡ true = le-leb _ _ (i .if3 .left) in
-    rw (few-tanks (i .before .before), small-exponent (i .before), t) (c .before .before .write-text .ensures)
+    let r = c .before .before .before .before .before .before in
+    let a = answers r in
+    let v = verdict a in
+    wrote-then (omega arith) (v .write-verdict-line .ensures .wrote)
+    (wrote-then (omega (arith, after-verdict v)) (a .write-answers .ensures .wrote)
+    (wrote-then (omega (arith, after-answers a)) (r .write-rows .ensures .wrote)
+    (wrote-last (c .before .before .write-factor-line .ensures .wrote) .whole)))
 
 pub render-spec : {M : Type 1} → statement M
 render-spec =
-    tie.close (tie.spec returns returns-2 returns-3 (λ c κs. search needs) (λ c. search needs) returns-4)
+    tie.close
+    (tie.spec
+    write-verdict-line-requires
+    write-answers-requires
+    write-rows-requires
+    write-factor-line-requires
+    (λ c. search needs)
+    returns)

@@ -1,38 +1,38 @@
 -- `report::write_answer_line` meets its contract: four texts, one after another.
 -- Assumes nothing.
-use mathlib.Core.List.{[], _∷_}
 use Prim.Native.Nat.{_≤_}
-use native.Mathlib.Nat.{lt-of-le-of-lt}
-use native.Mathlib.Omega.{arith}
+use borrow.Author.Needs.{needs}
+use denote.Ref.{now}
 use lib.Dec.{lit<}
 use lib.ListN.{length}
-use denote.Ref.{now}
-use borrow.Author.Needs.{needs}
-use Rattle.buffer.specs.Buffer.{Room, Wrote}
-use Rattle.buffer.specs.WroteLaws.{Rooms, room-here, room-after, wrote-first, wrote-last}
+use mathlib.Core.List.{[], _∷_}
+use mir.Facts.{toZ-ofZ, sfits-widen}
 use mir.Syntax.{w32, w64}
 use mir.Val.{SFits}
-use mir.Facts.{toZ-ofZ, sfits-widen}
-use Rattle.decimal.specs.Decimal.{fixed-point, ascii}
-use Rattle.report.specs.Text.{labelled, answer-line, line-feed, answer-room}
-use Rattle.report.specs.TextLaws.{length-answer-line}
+use native.Mathlib.Nat.{lt-of-le-of-lt}
+use native.Mathlib.Omega.{arith}
+use Rattle.buffer.specs.Buffer.{Room, Wrote}
+use Rattle.buffer.specs.WroteLaws.{Rooms, room-here, room-after, wrote-first, wrote-last}
 use Rattle.integers.specs.Size.{size-sfits}
+use Rattle.decimal.specs.Decimal.{fixedPoint, ascii}
+use Rattle.report.specs.Text.{labelled, answerLine, lineFeed, answerRoom}
+use Rattle.report.specs.TextLaws.{length-answer-line}
 use Rattle.report.proofs.write_answer_line.Statement.{statement}
 use Rattle.report.proofs.write_answer_line.Tie as tie
 
-short : (s : tie.Start) → length (answer-line (s .args .e) (s .args .tank) (s .args .figure)) ≤ answer-room
+short : (s : tie.Start) → length (answerLine (s .args .e) (s .args .tank) (s .args .figure)) ≤ answerRoom
 short s =
     length-answer-line (s .args .e) (s .args .tank) (s .args .figure) (s .pre .0) (s .pre .1 .0)
     (lt-of-le-of-lt (size-sfits {w = w32} (s .fits .figure)) (lit< tt))
 
-whole-room : (s : tie.Start) → Room (answer-line (s .args .e) (s .args .tank) (s .args .figure)) (s .args .at) (now (s .args .out))
+whole-room : (s : tie.Start) → Room (answerLine (s .args .e) (s .args .tank) (s .args .figure)) (s .args .at) (now (s .args .out))
 whole-room s = record { room = omega (arith, short s, s .pre .1 .1) }
 
 wide : (s : tie.Start) → SFits w64 (s .args .figure)
 wide s = sfits-widen {w = w32} tt (s .fits .figure)
 
-room : (s : tie.Start) → Rooms (labelled (ascii "answer ") (s .args .tank) ∷ ascii " " ∷ fixed-point (s .args .e) (s .args .figure) ∷ line-feed ∷ []) (s .args .at) (now (s .args .out))
-unfolding answer-line
+room : (s : tie.Start) → Rooms (labelled (ascii "answer ") (s .args .tank) ∷ ascii " " ∷ fixedPoint (s .args .e) (s .args .figure) ∷ lineFeed ∷ []) (s .args .at) (now (s .args .out))
+unfolding answerLine
 room s = record { whole = whole-room s }
 
 -- after the space
@@ -43,11 +43,11 @@ module _ (b : tie.After-write-bytes) where
   abbrev start : tie.Start
   start = first .before .before .before .before
 
-  left : Rooms (fixed-point (start .args .e) (start .args .figure) ∷ line-feed ∷ []) (b .write-bytes .result) (b .write-bytes .last .1 .1 .0)
+  left : Rooms (fixedPoint (start .args .e) (start .args .figure) ∷ lineFeed ∷ []) (b .write-bytes .result) (b .write-bytes .last .1 .1 .0)
   left = room-after (room-after (room start) (first .write-labelled .ensures)) (b .write-bytes .ensures)
 
 -- the figure is written
-figure : (f : tie.After-write-fixed-point) → let b = f .before .before .before .before in Wrote (fixed-point (start b .args .e) (start b .args .figure)) (b .write-bytes .result) (b .write-bytes .last .1 .1 .0) (f .write-fixed-point .result) (f .write-fixed-point .last .1 .1 .1 .0)
+figure : (f : tie.After-write-fixed-point) → let b = f .before .before .before .before in Wrote (fixedPoint (start b .args .e) (start b .args .figure)) (b .write-bytes .result) (b .write-bytes .last .1 .1 .0) (f .write-fixed-point .result) (f .write-fixed-point .last .1 .1 .1 .0)
 figure f =
     let s = start (f .before .before .before .before) in
     rw (toZ-ofZ {w = w32} (s .fits .figure), toZ-ofZ {w = w64} (wide s)) at (f .write-fixed-point .ensures)
@@ -76,7 +76,7 @@ write-bytes-requires-2 c κs =
     room-here (room-after (left (f .before .before .before .before)) (figure f))
 
 returns : tie.Need-returns
-unfolding answer-line
+unfolding answerLine
 returns c =
     let e = c .before .before in
     let f = e .before .before .before .before .before in

@@ -1,24 +1,24 @@
 -- `report::write_answers` meets its contract. The loop's invariant: the lines of the tanks before j are written.
 -- Assumes nothing.
-use mathlib.Core.List.{List}
 use Prim.Native.Nat.{ℕ, _+_, _-_}
-use native.Mathlib.Omega.{arith}
-use lib.ListN.{getD}
 use lib.IntN.{ℤ, pos}
+use lib.ListN.{getD}
+use mathlib.Core.List.{List}
+use mir.Facts.{toZ-ofZ}
 use mir.Syntax.{w32}
 use mir.Val.{SFits}
-use mir.Facts.{toZ-ofZ}
+use native.Mathlib.Omega.{arith}
 use Rattle.buffer.specs.RunLaws.{Running, run-begun, run-next}
-use Rattle.report.specs.Text.{answer-line, answer-room}
 use Rattle.report.specs.Lines.{lines-turn, lines-ended}
+use Rattle.report.specs.Text.{answerLine, answerRoom}
 use Rattle.report.proofs.write_answers.Statement.{statement}
 use Rattle.report.proofs.write_answers.Tie as tie
 
 abbrev line : ℕ → List ℤ → ℕ → List ℕ
-line e answer j = answer-line e (j + 1) (getD answer j (pos 0))
+line e answer j = answerLine e (j + 1) (getD answer j (pos 0))
 
 abbrev Inv-loop : tie.InvT-loop
-Inv-loop n e answer at out₀ j₀ next₀ out j next = Running answer-room (line e answer) n at out₀ out j next
+Inv-loop n e answer at out₀ j₀ next₀ out j next = Running answerRoom (line e answer) n at out₀ out j next
 
 abbrev μ-loop : tie.MeasureT-loop
 μ-loop n e answer at out₀ j₀ next₀ out j next = n - j

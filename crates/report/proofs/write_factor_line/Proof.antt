@@ -1,28 +1,28 @@
 -- `report::write_factor_line` meets its contract: two texts, one after another.
 -- Assumes nothing.
-use mathlib.Core.List.{[], _∷_}
 use Prim.Native.Nat.{_≤_}
-use native.Mathlib.Nat.{lt-of-lt-of-le}
-use native.Mathlib.Omega.{arith}
+use borrow.Author.Needs.{needs}
+use denote.Ref.{now}
 use lib.Dec.{lit≤}
 use lib.ListN.{length}
-use denote.Ref.{now}
-use borrow.Author.Needs.{needs}
+use mathlib.Core.List.{[], _∷_}
+use native.Mathlib.Nat.{lt-of-lt-of-le}
+use native.Mathlib.Omega.{arith}
 use Rattle.buffer.specs.Buffer.{Room}
 use Rattle.buffer.specs.WroteLaws.{Rooms, room-here, room-after, wrote-first, wrote-last}
-use Rattle.report.specs.Text.{labelled, factor-word, factor-line, line-feed, factor-room}
+use Rattle.report.specs.Text.{labelled, factorWord, factorLine, lineFeed, factorRoom}
 use Rattle.report.specs.TextLaws.{length-factor-line}
 use Rattle.report.proofs.write_factor_line.Statement.{statement}
 use Rattle.report.proofs.write_factor_line.Tie as tie
 
-short : (s : tie.Start) → length (factor-line (s .args .none) (s .args .row)) ≤ factor-room
+short : (s : tie.Start) → length (factorLine (s .args .none) (s .args .row)) ≤ factorRoom
 short s = length-factor-line (s .args .none) (s .args .row) (lt-of-lt-of-le (s .fits .row .fits) (lit≤ tt))
 
-whole-room : (s : tie.Start) → Room (factor-line (s .args .none) (s .args .row)) (s .args .at) (now (s .args .out))
+whole-room : (s : tie.Start) → Room (factorLine (s .args .none) (s .args .row)) (s .args .at) (now (s .args .out))
 whole-room s = record { room = omega (arith, short s, s .pre) }
 
-room : (s : tie.Start) → Rooms (labelled (factor-word (s .args .none)) (s .args .row) ∷ line-feed ∷ []) (s .args .at) (now (s .args .out))
-unfolding factor-line
+room : (s : tie.Start) → Rooms (labelled (factorWord (s .args .none)) (s .args .row) ∷ lineFeed ∷ []) (s .args .at) (now (s .args .out))
+unfolding factorLine
 room s = record { whole = whole-room s }
 
 write-either-requires : tie.Need-write-either-requires
@@ -34,7 +34,7 @@ write-bytes-requires c κs =
     room-here (room-after (room (f .before .before .before .before .before)) (f .write-either .ensures))
 
 returns : tie.Need-returns
-unfolding factor-line
+unfolding factorLine
 returns c =
     let f = c .before .before .before .before .before .before .before in
     let s = f .before .before .before .before .before in

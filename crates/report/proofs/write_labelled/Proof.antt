@@ -1,14 +1,14 @@
 -- `report::write_labelled` meets its contract: the word, then the number.
 -- Assumes nothing.
-use native.Mathlib.Omega.{arith}
 use borrow.Author.Needs.{needs}
+use native.Mathlib.Omega.{arith}
 use Rattle.buffer.specs.WroteLaws.{room-front, room-next, wrote-then}
-use Rattle.decimal.specs.Decimal.{digits}
+use Rattle.decimal.specs.Decimal.{decimalDigits}
 use Rattle.report.proofs.write_labelled.Statement.{statement}
 use Rattle.report.proofs.write_labelled.Tie as tie
 
 write-bytes-requires : tie.Need-write-bytes-requires
-write-bytes-requires c κs = let s = c .before .before .before in room-front (digits (s .args .x)) (s .pre)
+write-bytes-requires c κs = let s = c .before .before .before in room-front (decimalDigits (s .args .x)) (s .pre)
 
 write-unsigned-requires : tie.Need-write-unsigned-requires
 write-unsigned-requires c κs =

@@ -1,35 +1,35 @@
 -- `report::write_row_line` meets its contract: five texts, one after another.
 -- Assumes nothing.
-use mathlib.Core.List.{[], _∷_}
 use Prim.Native.Nat.{_≤_}
-use native.Mathlib.Nat.{lt-of-lt-of-le, lt-of-le-of-lt}
-use native.Mathlib.Omega.{arith}
+use borrow.Author.Needs.{needs}
+use denote.Ref.{now}
 use lib.Dec.{lit≤, lit<}
 use lib.ListN.{length}
-use denote.Ref.{now}
-use borrow.Author.Needs.{needs}
+use mathlib.Core.List.{[], _∷_}
+use mir.Facts.{toZ-ofZ}
+use mir.Syntax.{w64}
+use native.Mathlib.Nat.{lt-of-lt-of-le, lt-of-le-of-lt}
+use native.Mathlib.Omega.{arith}
 use Rattle.buffer.specs.Buffer.{Room, Wrote}
 use Rattle.buffer.specs.WroteLaws.{Rooms, room-here, room-after, wrote-first, wrote-last}
-use mir.Syntax.{w64}
-use mir.Facts.{toZ-ofZ}
-use Rattle.decimal.specs.Decimal.{signed, ascii}
-use Rattle.report.specs.Text.{labelled, row-line, line-feed, row-room}
-use Rattle.report.specs.TextLaws.{length-row-line}
 use Rattle.integers.specs.Size.{size-sfits}
+use Rattle.decimal.specs.Decimal.{signedDecimal, ascii}
+use Rattle.report.specs.Text.{labelled, rowLine, lineFeed, rowRoom}
+use Rattle.report.specs.TextLaws.{length-row-line}
 use Rattle.report.proofs.write_row_line.Statement.{statement}
 use Rattle.report.proofs.write_row_line.Tie as tie
 
-short : (s : tie.Start) → length (row-line (s .args .row) (s .args .residual) (s .args .reach)) ≤ row-room
+short : (s : tie.Start) → length (rowLine (s .args .row) (s .args .residual) (s .args .reach)) ≤ rowRoom
 short s =
     length-row-line (s .args .row) (s .args .residual) (s .args .reach) (s .pre .0)
     (lt-of-le-of-lt (size-sfits {w = w64} (s .fits .residual)) (lit< tt))
     (lt-of-lt-of-le (s .fits .reach .fits) (lit≤ tt))
 
-whole-room : (s : tie.Start) → Room (row-line (s .args .row) (s .args .residual) (s .args .reach)) (s .args .at) (now (s .args .out))
+whole-room : (s : tie.Start) → Room (rowLine (s .args .row) (s .args .residual) (s .args .reach)) (s .args .at) (now (s .args .out))
 whole-room s = record { room = omega (arith, short s, s .pre .1) }
 
-room : (s : tie.Start) → Rooms (labelled (ascii "row ") (s .args .row) ∷ ascii " residual " ∷ signed (s .args .residual) ∷ labelled (ascii " reach ") (s .args .reach) ∷ line-feed ∷ []) (s .args .at) (now (s .args .out))
-unfolding row-line
+room : (s : tie.Start) → Rooms (labelled (ascii "row ") (s .args .row) ∷ ascii " residual " ∷ signedDecimal (s .args .residual) ∷ labelled (ascii " reach ") (s .args .reach) ∷ lineFeed ∷ []) (s .args .at) (now (s .args .out))
+unfolding rowLine
 room s = record { whole = whole-room s }
 
 -- after the second word
@@ -40,7 +40,7 @@ module _ (b : tie.After-write-bytes) where
   abbrev start : tie.Start
   start = first .before .before .before .before
 
-  left : Rooms (signed (start .args .residual) ∷ labelled (ascii " reach ") (start .args .reach) ∷ line-feed ∷ []) (b .write-bytes .result) (b .write-bytes .last .1 .1 .0)
+  left : Rooms (signedDecimal (start .args .residual) ∷ labelled (ascii " reach ") (start .args .reach) ∷ lineFeed ∷ []) (b .write-bytes .result) (b .write-bytes .last .1 .1 .0)
   left = room-after (room-after (room start) (first .write-labelled .ensures)) (b .write-bytes .ensures)
 
 -- after the residual
@@ -48,10 +48,10 @@ module _ (f : tie.After-write-signed) where
   abbrev second : tie.After-write-bytes
   second = f .before .before .before .before
 
-  residual : Wrote (signed (start second .args .residual)) (second .write-bytes .result) (second .write-bytes .last .1 .1 .0) (f .write-signed .result) (f .write-signed .last .1 .1 .0)
+  residual : Wrote (signedDecimal (start second .args .residual)) (second .write-bytes .result) (second .write-bytes .last .1 .1 .0) (f .write-signed .result) (f .write-signed .last .1 .1 .0)
   residual = rw (toZ-ofZ {w = w64} (start second .fits .residual)) at (f .write-signed .ensures)
 
-  rest : Rooms (labelled (ascii " reach ") (start second .args .reach) ∷ line-feed ∷ []) (f .write-signed .result) (f .write-signed .last .1 .1 .0)
+  rest : Rooms (labelled (ascii " reach ") (start second .args .reach) ∷ lineFeed ∷ []) (f .write-signed .result) (f .write-signed .last .1 .1 .0)
   rest = room-after (left second) residual
 
 write-labelled-requires : tie.Need-write-labelled-requires
@@ -76,7 +76,7 @@ write-bytes-requires-2 c κs =
     room-here (room-after (rest (l .before .before .before .before .before)) (l .write-labelled2 .ensures))
 
 returns : tie.Need-returns
-unfolding row-line
+unfolding rowLine
 returns c =
     let e = c .before .before in
     let l = e .before .before .before .before .before in

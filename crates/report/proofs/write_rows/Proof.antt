@@ -1,24 +1,24 @@
 -- `report::write_rows` meets its contract. The loop's invariant: the lines of the rows before i are written.
 -- Assumes nothing.
-use mathlib.Core.List.{List}
 use Prim.Native.Nat.{ℕ, _+_, _-_}
-use native.Mathlib.Omega.{arith}
-use lib.ListN.{getD}
 use lib.IntN.{ℤ, pos}
+use lib.ListN.{getD}
+use mathlib.Core.List.{List}
+use mir.Facts.{toZ-ofZ}
 use mir.Syntax.{w64}
 use mir.Val.{SFits}
-use mir.Facts.{toZ-ofZ}
+use native.Mathlib.Omega.{arith}
 use Rattle.buffer.specs.RunLaws.{Running, run-begun, run-next}
-use Rattle.report.specs.Text.{row-line, row-room}
 use Rattle.report.specs.Lines.{lines-turn, lines-ended}
+use Rattle.report.specs.Text.{rowLine, rowRoom}
 use Rattle.report.proofs.write_rows.Statement.{statement}
 use Rattle.report.proofs.write_rows.Tie as tie
 
 abbrev line : List ℤ → List ℕ → ℕ → List ℕ
-line residuals reaches i = row-line (i + 1) (getD residuals i (pos 0)) (getD reaches i 0)
+line residuals reaches i = rowLine (i + 1) (getD residuals i (pos 0)) (getD reaches i 0)
 
 abbrev Inv-loop : tie.InvT-loop
-Inv-loop n residuals reaches at out₀ i₀ next₀ out i next = Running row-room (line residuals reaches) n at out₀ out i next
+Inv-loop n residuals reaches at out₀ i₀ next₀ out i next = Running rowRoom (line residuals reaches) n at out₀ out i next
 
 abbrev μ-loop : tie.MeasureT-loop
 μ-loop n residuals reaches at out₀ i₀ next₀ out i next = n - i

@@ -1,32 +1,32 @@
 -- `report::write_verdict_line` meets its contract: three texts, one after another.
 -- Assumes nothing.
-use mathlib.Core.List.{[], _∷_}
 use Prim.Native.Nat.{_≤_}
-use native.Mathlib.Nat.{lt-of-lt-of-le}
-use native.Mathlib.Omega.{arith}
+use borrow.Author.Needs.{needs}
+use denote.Ref.{now}
 use lib.Dec.{lit≤}
 use lib.ListN.{length}
-use denote.Ref.{now}
-use borrow.Author.Needs.{needs}
-use Rattle.decimal.specs.Decimal.{ascii}
+use mathlib.Core.List.{[], _∷_}
+use native.Mathlib.Nat.{lt-of-lt-of-le}
+use native.Mathlib.Omega.{arith}
 use Rattle.buffer.specs.Buffer.{Room}
 use Rattle.buffer.specs.WroteLaws.{Rooms, room-here, room-after, wrote-first, wrote-last}
-use Rattle.report.specs.Text.{labelled, verdict-word, verdict-line, line-feed, verdict-room}
+use Rattle.decimal.specs.Decimal.{ascii}
+use Rattle.report.specs.Text.{labelled, verdictWord, verdictLine, lineFeed, verdictRoom}
 use Rattle.report.specs.TextLaws.{length-verdict-line}
 use Rattle.report.proofs.write_verdict_line.Statement.{statement}
 use Rattle.report.proofs.write_verdict_line.Tie as tie
 
-short : (s : tie.Start) → length (verdict-line (s .args .met) (s .args .row) (s .args .rounds)) ≤ verdict-room
+short : (s : tie.Start) → length (verdictLine (s .args .met) (s .args .row) (s .args .rounds)) ≤ verdictRoom
 short s =
     length-verdict-line (s .args .met) (s .args .row) (s .args .rounds)
     (lt-of-lt-of-le (s .fits .row .fits) (lit≤ tt))
     (lt-of-lt-of-le (s .fits .rounds .fits) (lit≤ tt))
 
-whole-room : (s : tie.Start) → Room (verdict-line (s .args .met) (s .args .row) (s .args .rounds)) (s .args .at) (now (s .args .out))
+whole-room : (s : tie.Start) → Room (verdictLine (s .args .met) (s .args .row) (s .args .rounds)) (s .args .at) (now (s .args .out))
 whole-room s = record { room = omega (arith, short s, s .pre) }
 
-room : (s : tie.Start) → Rooms (labelled (verdict-word (s .args .met)) (s .args .row) ∷ labelled (ascii " rounds ") (s .args .rounds) ∷ line-feed ∷ []) (s .args .at) (now (s .args .out))
-unfolding verdict-line
+room : (s : tie.Start) → Rooms (labelled (verdictWord (s .args .met)) (s .args .row) ∷ labelled (ascii " rounds ") (s .args .rounds) ∷ lineFeed ∷ []) (s .args .at) (now (s .args .out))
+unfolding verdictLine
 room s = record { whole = whole-room s }
 
 write-either-requires : tie.Need-write-either-requires
@@ -44,7 +44,7 @@ write-bytes-requires c κs =
     room-here (room-after (room-after (room (v .before .before .before .before .before)) (v .write-either .ensures)) (l .write-labelled .ensures))
 
 returns : tie.Need-returns
-unfolding verdict-line
+unfolding verdictLine
 returns c =
     let b = c .before .before in
     let l = b .before .before .before .before .before in

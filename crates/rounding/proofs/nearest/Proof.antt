@@ -1,11 +1,11 @@
 -- `rounding::nearest` meets its contract. Where the quotient goes up, the divisor is at least 2, so that the next number fits.
 -- Assumes nothing.
-use mathlib.Core.Path.{sym, _∙_}
 use Prim.Native.Nat.{_/_, _%_, _≤_}
+use borrow.Author.Needs.{needs}
+use mathlib.Core.Path.{sym, _∙_}
 use native.Mathlib.Nat.{mod-lt, div-add-mod', mul-le-mul-left}
 use native.Mathlib.Omega.{arith}
-use borrow.Author.Needs.{needs}
-use Rattle.rounding.specs.Half.{up-half}
+use Rattle.rounding.specs.HalfLaws.{up-half}
 use Rattle.rounding.specs.Laws.{near-by}
 use Rattle.rounding.proofs.nearest.Statement.{statement}
 use Rattle.rounding.proofs.nearest.Tie as tie

@@ -1,14 +1,14 @@
 -- `rounding::negated` meets its contract: minus one less, less one, which fits also where the number itself does not. Assumes nothing.
-use mathlib.Core.Path.{ap, sym}
 use Prim.Native.Nat.{ℕ, _-_, _<_, _^_}
-use native.Mathlib.Omega.{arith}
+use borrow.Author.Needs.{needs}
 use lib.IntN.{pos, negℤ, _-ℤ_}
+use mathlib.Core.Path.{ap, sym}
+use mir.Facts.{toZ-ofZ, toZ-pos}
 use mir.Syntax.{w64}
 use mir.Val.{SFits}
-use mir.Facts.{toZ-ofZ, toZ-pos}
-use borrow.Author.Needs.{needs}
-use Rattle.integers.specs.Size.{sfits-negℤ}
+use native.Mathlib.Omega.{arith}
 use Rattle.integers.specs.Code.{minus-less, minus-fits}
+use Rattle.integers.specs.Size.{sfits-negℤ}
 use Rattle.rounding.proofs.negated.Statement.{statement}
 use Rattle.rounding.proofs.negated.Tie as tie
 

@@ -1,18 +1,19 @@
 -- `rounding::rounded_by_scale` meets its contract: the magnitude with the half added, and the sign of p. Assumes nothing.
-use mathlib.Core.Path.{_≡_, sym, ap, _∙_}
 use Prim.Native.Nat.{ℕ, _/_, _≤_, _^_}
-use native.Mathlib.Omega.{arith}
-use mathlib.Core.Bool.{true, false}
-use lib.Signed.{ltZ}
+use borrow.Author.Needs.{needs}
 use lib.IntN.{ℤ, pos, negℤ, natAbs}
+use lib.Signed.{ltZ}
+use mathlib.Core.Bool.{true, false}
+use mathlib.Core.Path.{_≡_, sym, ap, _∙_}
+use mir.Facts.{toZ-ofZ, toZ-pos}
 use mir.Syntax.{w64}
 use mir.Val.{toZ, ofZ}
-use mir.Facts.{toZ-ofZ, toZ-pos}
-use borrow.Author.Needs.{needs}
+use native.Mathlib.Omega.{arith}
 use Rattle.integers.specs.Size.{size-sfits, sfits-negℤ}
-use Rattle.rounding.specs.Half.{with-half}
-use Rattle.rounding.specs.Round.{rnd}
+use Rattle.rounding.specs.Half.{withHalf}
 use Rattle.rounding.specs.Laws.{rnd-scale}
+use Rattle.rounding.specs.Round.{rnd}
+use Rattle.rounding.specs.Scale.{multiplierScale}
 use Rattle.rounding.proofs.rounded_by_scale.Statement.{statement}
 use Rattle.rounding.proofs.rounded_by_scale.Tie as tie
 
@@ -30,7 +31,7 @@ module _ (c : tie.After-magnitude) where
   size-le = omega (arith, size-is, size-sfits (c .before .fits .p))
 
   abbrev m′ : ℕ
-  m′ = with-half (c .magnitude .result) / 16384
+  m′ = withHalf (c .magnitude .result) / multiplierScale
 
 add-m : tie.Need-add-m
 add-m c = omega (arith, size-le c)
@@ -45,7 +46,7 @@ returns : tie.Need-returns
 returns c =
     let d = c .before .before in
     let below : ltZ (p′ d) (pos 0) ≡ true = rw (p-is d) at (c .before .if1 .taken) in
-    let e : rnd (p′ d) (pos 16384) ≡ negℤ (pos (m′ d)) = rnd-scale (p′ d) ∙ rw (below, ← size-is d) in
+    let e : rnd (p′ d) (pos multiplierScale) ≡ negℤ (pos (m′ d)) = rnd-scale (p′ d) ∙ rw (below, ← size-is d) in
     rw (c .negated .ensures) (toZ-ofZ (sfits-negℤ {w = w64} (m′ d) (omega (arith, size-le d))) ∙ sym e)
 
 returns-2 : tie.Need-returns-2

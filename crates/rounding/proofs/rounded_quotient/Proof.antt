@@ -1,17 +1,17 @@
 -- `rounding::rounded_quotient` meets its contract: the magnitudes are rounded, and the tests of the signs give the sign. Assumes nothing.
-use mathlib.Core.Path.{_≡_, sym, ap, ap₂, _∙_}
-use mathlib.Core.Bool.{true, false}
 use Prim.Native.Nat.{ℕ}
+use borrow.Author.Needs.{needs}
 use lib.IntN.{ℤ, pos, negℤ, natAbs}
 use lib.Signed.{ltZ}
+use mathlib.Core.Bool.{true, false}
+use mathlib.Core.Path.{_≡_, sym, ap, ap₂, _∙_}
+use mir.Facts.{toZ-ofZ}
 use mir.Syntax.{w64}
 use mir.Val.{toZ, ofZ}
-use mir.Facts.{toZ-ofZ}
-use borrow.Author.Needs.{needs}
-use Rattle.integers.specs.Size.{size-negℤ}
 use Rattle.integers.specs.Signed.{toZ-fits}
-use Rattle.rounding.specs.Round.{near, rnd}
+use Rattle.integers.specs.Size.{size-negℤ}
 use Rattle.rounding.specs.Laws.{rnd-signs}
+use Rattle.rounding.specs.Round.{near, rnd}
 use Rattle.rounding.proofs.rounded_quotient.Statement.{statement}
 use Rattle.rounding.proofs.rounded_quotient.Tie as tie
 

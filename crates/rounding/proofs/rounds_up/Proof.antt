@@ -1,12 +1,12 @@
 -- `rounding::rounds_up` meets its contract: it is the test of the rule for halves. Assumes nothing.
-use mathlib.Core.Path.{refl}
 use borrow.Author.Needs.{needs}
-use Rattle.rounding.specs.Half.{rounds-up}
+use mathlib.Core.Path.{refl}
+use Rattle.rounding.specs.Half.{roundsUp}
 use Rattle.rounding.proofs.rounds_up.Statement.{statement}
 use Rattle.rounding.proofs.rounds_up.Tie as tie
 
 returns : tie.Need-returns
-unfolding rounds-up
+unfolding roundsUp
 returns c = refl
 
 pub rounds-up-spec : {M : Type 1} → statement M

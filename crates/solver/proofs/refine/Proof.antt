@@ -1,33 +1,33 @@
 -- `solver::refine` meets its contract. The loop's invariant: the rounds left, from the trial so far, give what all of them give from the start.
 -- Assumes nothing.
-use mathlib.Core.Path.{_≡_, refl, sym, _∙_}
-use mathlib.Core.List.{List}
 use Prim.Native.Nat.{ℕ, _+_, _≤_}
-use native.Mathlib.Omega.{arith}
 use borrow.Author.Needs.{needs}
 use lib.IntN.{ℤ}
+use mathlib.Core.List.{List}
+use mathlib.Core.Path.{_≡_, refl, sym, _∙_}
+use native.Mathlib.Omega.{arith}
 use Rattle.judge.specs.System.{System, system}
-use Rattle.solver.specs.declared.Progress.{Progress}
-use Rattle.solver.specs.Refinement.{round, ended, refined}
-use Rattle.solver.specs.Limits.{Measured}
 use Rattle.solver.specs.Laws.{round-measured, round-counts, refined-none, refined-more, refined-ended}
+use Rattle.solver.specs.Limits.{Measured}
+use Rattle.solver.specs.Refinement.{round, ended, refined}
+use Rattle.solver.specs.declared.Progress.{Progress}
 use Rattle.solver.proofs.refine.Statement.{statement}
 use Rattle.solver.proofs.refine.Tie as tie
 
 abbrev Inv-loop : tie.InvT-loop
-Inv-loop n scale coefficients tolerances right-sides right-tolerances rows order rounds progress₀ left₀ progress left =
+Inv-loop n scale coefficients tolerances right-sides right-tolerances working order rounds progress₀ left₀ progress left =
     (progress .rounds + left ≤ rounds)
     × Measured (system n coefficients tolerances right-sides right-tolerances) scale progress
-    × (refined rows order (system n coefficients tolerances right-sides right-tolerances) scale left progress ≡ refined rows order (system n coefficients tolerances right-sides right-tolerances) scale rounds progress₀)
+    × (refined working order (system n coefficients tolerances right-sides right-tolerances) scale left progress ≡ refined working order (system n coefficients tolerances right-sides right-tolerances) scale rounds progress₀)
 
 abbrev μ-loop : tie.MeasureT-loop
-μ-loop n scale coefficients tolerances right-sides right-tolerances rows order rounds progress₀ left₀ progress left =
+μ-loop n scale coefficients tolerances right-sides right-tolerances working order rounds progress₀ left₀ progress left =
     left
 
--- at the loop's head: the rows and their order, the system, the scale and the trial so far
+-- at the loop's head: the working matrix and its order, the system, the scale and the trial so far
 module _ (c : tie.At-loop Inv-loop μ-loop) where
   abbrev w′ : List (List ℤ)
-  w′ = c .before .args .rows .now
+  w′ = c .before .args .working .now
 
   abbrev o′ : List ℕ
   o′ = c .before .args .order .now
@@ -49,6 +49,7 @@ round-requires c κs =
     let d = c .before in
     record {
       limits = d .before .pre .limits;
+      ranges = d .before .pre .ranges;
       eliminated = d .before .pre .eliminated;
       measured = d .loop .inv .1;
       countable = omega (arith, d .loop .inv .0, d .before .fits .rounds);
@@ -60,12 +61,6 @@ returns c =
     let d = c .before .before .before .before in
     refined-ended (w′ d) (o′ d) (s′ d) (D′ d) (d .loop .left) (p′ d) (r .result) (omega arith) (r .ensures) (sym (c .before .ended .ensures) ∙ c .if1 .taken)
     ∙ d .loop .inv .2
-
-sub-left : tie.Need-sub-left Inv-loop μ-loop
-sub-left c = omega arith
-
-loop-less : tie.Need-loop-less Inv-loop μ-loop
-loop-less c = omega arith
 
 loop-again : tie.Need-loop-again Inv-loop μ-loop
 loop-again c =
@@ -93,7 +88,7 @@ refine-spec =
     round-requires
     (λ c κs. search needs)
     returns
-    sub-left
-    loop-less
+    (λ c. omega arith)
+    (λ c. omega arith)
     loop-again
     returns-2)

@@ -1,18 +1,19 @@
 -- `solver::solve` meets its contract: the rounds start from a complete elimination and from what the zero trial leaves, or refusal 8 is told.
 -- Assumes nothing.
-use mathlib.Core.Path.{_≡_, refl, sym, _∙_}
-use mathlib.Core.List.{List}
 use Prim.Native.Nat.{ℕ}
-use lib.IntN.{ℤ}
-use Rattle.judge.specs.System.{System, system}
-use Rattle.elimination.specs.declared.Elimination.the-variants as E
-use Rattle.elimination.specs.Steps.{Run, eliminated}
-use Rattle.elimination.specs.Outcome.{outcome}
-use Rattle.solver.specs.Refinement.{start}
-use Rattle.solver.specs.Limits.{Measured, Startable}
-use Rattle.solver.specs.Outcomes.{start-measured, startable, solution-answered, solution-refused}
-use Rattle.solver.specs.Answers.{refined-measured}
 use borrow.Author.Needs.{needs}
+use lib.IntN.{ℤ}
+use mathlib.Core.List.{List}
+use mathlib.Core.Path.{_≡_, refl, sym, _∙_}
+use Rattle.judge.specs.System.{System, system}
+use Rattle.elimination.specs.Outcome.{outcome}
+use Rattle.elimination.specs.OutcomeLaws.{answer-is}
+use Rattle.elimination.specs.Steps.{Run, eliminated}
+use Rattle.elimination.specs.declared.Elimination.the-variants as E
+use Rattle.solver.specs.Answers.{refined-measured}
+use Rattle.solver.specs.Limits.{Measured, Startable}
+use Rattle.solver.specs.Outcomes.{start-measured, startable, solution-answered, solution-refused, solution-promised}
+use Rattle.solver.specs.Refinement.{start}
 use Rattle.solver.proofs.solve.Statement.{statement}
 use Rattle.solver.proofs.solve.Tie as tie
 
@@ -29,10 +30,10 @@ module _ (c : tie.Start) where
 
 module _ (c : tie.After-start) where
   abbrev begun : tie.Start
-  begun = c .before .before .before .before
+  begun = c .before .before .before .before .before .before .before
 
-  abbrev rows′ : List (List ℤ)
-  rows′ = c .before .eliminate .last .1 .1 .0
+  abbrev working′ : List (List ℤ)
+  working′ = c .before .eliminate .last .1 .1 .0
 
   abbrev order′ : List ℕ
   order′ = c .before .eliminate .last .1 .1 .1 .0
@@ -43,35 +44,34 @@ module _ (c : tie.After-start) where
   first-measured : Measured (s′ begun) (D′ begun) (c .start .result)
   first-measured = start-measured (s′ begun) (D′ begun) (c .start .result) first-is
 
-  ready : outcome (begun .args .n) (r′ begun .steps) ≡ E.Complete → Startable rows′ order′ (s′ begun) (D′ begun) (c .start .result)
-  ready = startable (s′ begun) (D′ begun) rows′ order′ (c .start .result) (c .before .eliminate .ensures .rows-are) (c .before .eliminate .ensures .order-is) first-is (begun .pre)
-
-enum-told : tie.Need-enum-told
-enum-told c = search needs
+  ready : outcome (begun .args .n) (r′ begun .steps) ≡ E.Complete → Startable working′ order′ (s′ begun) (D′ begun) (c .start .result)
+  ready = startable (s′ begun) (D′ begun) working′ order′ (c .start .result) (c .before .eliminate .ensures .working-is) (c .before .eliminate .ensures .order-is) first-is (begun .pre) (c .before .before .before .before .type-ranges .ensures)
 
 refine-requires : tie.Need-refine-requires
 refine-requires c κs =
     let d = c .before .before .before .before in
-    ready d (sym (d .before .eliminate .ensures .answer-is) ∙ c .before .before .enum-told2 .given .1)
+    ready d (sym (answer-is (d .before .eliminate .ensures)) ∙ c .before .before .enum-told2 .given .1)
 
 returns : tie.Need-returns
 returns c =
     let d = c .before .before .before in
     let b = begun d in
-    c .kept .ensures (s′ b) (D′ b) refl (first-measured d)
+    solution-promised _ _
+    (c .kept .ensures (s′ b) (D′ b) refl (first-measured d)
     ∙ solution-refused (s′ b) (D′ b) (b .args .rounds) (c .before .enum-told .given .0 .0) (d .start .result) (first-is d)
-    (sym (d .before .eliminate .ensures .answer-is) ∙ c .before .enum-told .given .1)
+    (sym (answer-is (d .before .eliminate .ensures)) ∙ c .before .enum-told .given .1))
 
 returns-2 : tie.Need-returns-2
 returns-2 c =
     let d = c .before .before .before .before .before .before in
     let b = begun d in
     let r = c .before .refine in
-    let m = refined-measured (rows′ d) (order′ d) (s′ b) (D′ b) (b .args .rounds) (d .start .result) (r .result) (first-measured d) (r .ensures) in
-    c .answered .ensures (s′ b) (D′ b) refl m
-    ∙ solution-answered (s′ b) (D′ b) (rows′ d) (order′ d) (d .start .result) (d .before .eliminate .ensures .rows-are) (d .before .eliminate .ensures .order-is) (first-is d)
+    let m = refined-measured (working′ d) (order′ d) (s′ b) (D′ b) (b .args .rounds) (d .start .result) (r .result) (first-measured d) (r .ensures) in
+    solution-promised _ _
+    (c .answered .ensures (s′ b) (D′ b) refl m
+    ∙ solution-answered (s′ b) (D′ b) (working′ d) (order′ d) (d .start .result) (d .before .eliminate .ensures .working-is) (d .before .eliminate .ensures .order-is) (first-is d)
     (b .args .rounds) (r .result) (r .ensures)
-    (sym (d .before .eliminate .ensures .answer-is) ∙ c .before .before .before .before .enum-told2 .given .1)
+    (sym (answer-is (d .before .eliminate .ensures)) ∙ c .before .before .before .before .enum-told2 .given .1))
 
 pub solve-spec : {M : Type 1} → statement M
 solve-spec =
@@ -79,7 +79,8 @@ solve-spec =
     (tie.spec
     (λ c κs. search needs)
     (λ c κs. search needs)
-    enum-told
+    (λ c κs. search needs)
+    (λ c. search needs)
     (λ c κs. search needs)
     (λ c. search needs)
     refine-requires

@@ -1,13 +1,13 @@
 -- `solver::update_trial` meets its contract: each pass has what it asks from the one before.
 -- Assumes nothing.
-use mathlib.Core.Path.{_≡_, refl, ap, _∙_}
-use mathlib.Core.List.{List}
 use Prim.Native.Nat.{ℕ}
+use borrow.Author.Needs.{needs}
 use lib.IntN.{ℤ}
+use mathlib.Core.List.{List}
+use mathlib.Core.Path.{_≡_, ap, _∙_}
 use Rattle.substitution.specs.Passes.{Corrections, corrections, forward, backward}
 use Rattle.solver.specs.Refinement.{permuted, substituted}
-use Rattle.solver.specs.Sizes.{forward-ready, back-ready, gain-ready}
-use borrow.Author.Needs.{needs}
+use Rattle.solver.specs.Sizes.{forward-ready, back-ready, corrected-ready}
 use Rattle.solver.proofs.update_trial.Statement.{statement}
 use Rattle.solver.proofs.update_trial.Tie as tie
 
@@ -17,7 +17,7 @@ module _ (c : tie.Start) where
   n′ = c .args .n
 
   abbrev w′ : List (List ℤ)
-  w′ = c .args .rows .now
+  w′ = c .args .working .now
 
   abbrev z′ : List ℤ
   z′ = permuted (c .args .n) (c .args .order .now) (c .args .residuals .now)
@@ -46,17 +46,17 @@ forward-pass-requires c κs = rw (c .before .order-figures .ensures) (forward-re
 backward-pass-requires : tie.Need-backward-pass-requires
 backward-pass-requires c κs =
     let d = c .before .before in
-    (rw (forward-is d) (back-ready _ _ _ _ _ (begun d .pre)), refl)
+    rw (forward-is d) (back-ready _ _ _ _ _ (begun d .pre))
 
-gain-figures-requires : tie.Need-gain-figures-requires
-gain-figures-requires c κs =
+correct-figures-requires : tie.Need-correct-figures-requires
+correct-figures-requires c κs =
     let d = c .before .before .before in
-    rw (ap (λ (x : Corrections). x .values) (backward-is d)) (gain-ready _ _ _ _ _ (begun′ d .pre))
+    rw (ap (λ (x : Corrections). x .values) (backward-is d)) (corrected-ready _ _ _ _ _ (begun′ d .pre))
 
 returns : tie.Need-returns
 returns c =
     let d = c .before .before .before .before in
-    rw (← backward-is d, c .before .before .before .if1 .taken) (c .gain-figures .ensures)
+    rw (← backward-is d, c .before .before .before .if1 .taken) (c .correct-figures .ensures)
 
 returns-2 : tie.Need-returns-2
 returns-2 c = rw (← backward-is (c .before), c .if1 .left)
@@ -68,6 +68,6 @@ update-trial-spec =
     (λ c κs. search needs)
     forward-pass-requires
     backward-pass-requires
-    gain-figures-requires
+    correct-figures-requires
     returns
     returns-2)

@@ -1,20 +1,21 @@
 -- `substitution::correction_of` meets its contract: the numerator, with the sum above the diagonal, does not wrap.
 -- Assumes nothing.
-use mathlib.Core.Path.{_≡_, _∙_}
-use mathlib.Core.List.{List}
 use Prim.Native.Nat.{ℕ}
-use native.Mathlib.Omega.{arith}
-use lib.ListN.{getD}
+use borrow.Author.Needs.{needs}
 use lib.IntN.{ℤ, pos, _-ℤ_, _*ℤ_}
+use lib.ListN.{getD}
+use mathlib.Core.List.{List}
+use mathlib.Core.Path.{_≡_, _∙_}
+use mir.Facts.{toZ-ofZ}
 use mir.Syntax.{w64}
 use mir.Val.{SFits, toZ, ofZ}
-use mir.Facts.{toZ-ofZ}
+use native.Mathlib.Omega.{arith}
 use Rattle.integers.specs.Size.{sfits-size, product-ok}
 use Rattle.rounding.specs.Laws.{defined}
-use Rattle.substitution.specs.Passes.{sum-above, correction}
-use Rattle.substitution.specs.Bounds.{Correctable}
+use Rattle.elimination.specs.Steps.{workingScale}
 use Rattle.substitution.specs.BackwardLaws.{numerator-small, working-fits}
-use borrow.Author.Needs.{needs}
+use Rattle.substitution.specs.Bounds.{Correctable}
+use Rattle.substitution.specs.Passes.{sumAbove, correction}
 use Rattle.substitution.proofs.correction_of.Statement.{statement}
 use Rattle.substitution.proofs.correction_of.Tie as tie
 
@@ -38,22 +39,22 @@ module _ (c : tie.After-sum-above) where
   ready : Correctable row′ z′ d′ i′ n′
   ready = c .before .pre
 
-  scaled : SFits w64 (pos 256 *ℤ z′)
-  scaled = sfits-size (omega (arith, product-ok (pos 256) z′ 256 _ (omega arith) (ready .right)))
+  scaled : SFits w64 (pos workingScale *ℤ z′)
+  scaled = sfits-size (omega (arith, product-ok (pos workingScale) z′ workingScale _ (omega arith) (ready .right)))
 
-  numerator : SFits w64 (pos 256 *ℤ z′ -ℤ sum-above row′ d′ i′ n′)
+  numerator : SFits w64 (pos workingScale *ℤ z′ -ℤ sumAbove row′ d′ i′ n′)
   numerator = sfits-size (numerator-small row′ z′ d′ i′ n′ ready)
 
   read-z : toZ w64 (ofZ w64 z′) ≡ z′
   read-z = toZ-ofZ (c .before .fits .z)
 
-  read-scaled : toZ w64 (ofZ w64 (pos 256 *ℤ z′)) ≡ pos 256 *ℤ z′
+  read-scaled : toZ w64 (ofZ w64 (pos workingScale *ℤ z′)) ≡ pos workingScale *ℤ z′
   read-scaled = toZ-ofZ scaled
 
-  read-sum : toZ w64 (ofZ w64 (c .sum-above .result)) ≡ sum-above row′ d′ i′ n′
+  read-sum : toZ w64 (ofZ w64 (c .sum-above .result)) ≡ sumAbove row′ d′ i′ n′
   read-sum = toZ-ofZ {w = w64} (record { sfits = c .sum-above .ok }) ∙ c .sum-above .ensures
 
-  read-numerator : toZ w64 (ofZ w64 (pos 256 *ℤ z′ -ℤ sum-above row′ d′ i′ n′)) ≡ pos 256 *ℤ z′ -ℤ sum-above row′ d′ i′ n′
+  read-numerator : toZ w64 (ofZ w64 (pos workingScale *ℤ z′ -ℤ sumAbove row′ d′ i′ n′)) ≡ pos workingScale *ℤ z′ -ℤ sumAbove row′ d′ i′ n′
   read-numerator = toZ-ofZ numerator
 
   read-pivot : toZ w64 (ofZ w64 (getD row′ i′ (pos 0))) ≡ getD row′ i′ (pos 0)

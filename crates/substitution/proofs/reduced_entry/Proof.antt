@@ -1,25 +1,25 @@
 -- `substitution::reduced_entry` meets its contract. The loop's invariant: s is the entry after the losses by the first j multipliers.
 -- Assumes nothing.
-use mathlib.Core.Path.{_≡_, subst⁻¹}
-use mathlib.Core.List.{List}
 use Prim.Native.Nat.{ℕ, suc, _-_, _≤_}
-use native.Mathlib.Numerals.{add-one}
-use native.Mathlib.Omega.{arith}
 use borrow.Author.Needs.{needs}
-use lib.ListN.{getD}
 use lib.IntN.{ℤ, pos, _-ℤ_, _*ℤ_}
+use lib.ListN.{getD}
+use mathlib.Core.List.{List}
+use mathlib.Core.Path.{_≡_, subst⁻¹}
+use mir.Facts.{toZ-ofZ}
 use mir.Syntax.{w64}
 use mir.Val.{SFits, toZ, ofZ}
-use mir.Facts.{toZ-ofZ}
+use native.Mathlib.Numerals.{add-one}
+use native.Mathlib.Omega.{arith}
 use Rattle.integers.specs.Size.{sfits-size}
-use Rattle.substitution.specs.Passes.{loss, reduced}
 use Rattle.substitution.specs.Bounds.{Reducible}
 use Rattle.substitution.specs.ForwardLaws.{multiplier-fits, entry-fits, product-small, loss-fits, reduced-fits}
+use Rattle.substitution.specs.Passes.{loss, afterLosses}
 use Rattle.substitution.proofs.reduced_entry.Statement.{statement}
 use Rattle.substitution.proofs.reduced_entry.Tie as tie
 
 abbrev Inv-loop : tie.InvT-loop
-Inv-loop row z i s₀ j₀ s j = (j ≤ i) × (toZ w64 s ≡ reduced row z (getD z i (pos 0)) j)
+Inv-loop row z i s₀ j₀ s j = (j ≤ i) × (toZ w64 s ≡ afterLosses row z (getD z i (pos 0)) j)
 
 abbrev μ-loop : tie.MeasureT-loop
 μ-loop row z i s₀ j₀ s j = i - j
@@ -44,7 +44,7 @@ module _ (c : tie.In-loop Inv-loop μ-loop) where
   product : SFits w64 (getD row′ j′ (pos 0) *ℤ getD z′ j′ (pos 0))
   product = sfits-size (product-small row′ z′ i′ ready j′ (omega arith))
 
-  next : SFits w64 (reduced row′ z′ (getD z′ i′ (pos 0)) j′ -ℤ loss row′ z′ j′)
+  next : SFits w64 (afterLosses row′ z′ (getD z′ i′ (pos 0)) j′ -ℤ loss row′ z′ j′)
   next = reduced-fits row′ z′ i′ ready (suc j′) (omega arith)
 
   read-row : toZ w64 (ofZ w64 (getD row′ j′ (pos 0))) ≡ getD row′ j′ (pos 0)
@@ -60,26 +60,8 @@ module _ (c : tie.In-loop Inv-loop μ-loop) where
   read-product : toZ w64 (ofZ w64 (getD row′ j′ (pos 0) *ℤ getD z′ j′ (pos 0))) ≡ getD row′ j′ (pos 0) *ℤ getD z′ j′ (pos 0)
   read-product = toZ-ofZ product
 
-mul-s : tie.Need-mul-s Inv-loop μ-loop
-mul-s c = omega arith
-
-element-copy-out-s : tie.Need-element-copy-out-s Inv-loop μ-loop
-element-copy-out-s c = omega arith
-
 loop-holds : tie.Need-loop-holds Inv-loop μ-loop
 loop-holds c = (omega arith, search needs)
-
-mul-rounded-by-scale : tie.Need-mul-rounded-by-scale Inv-loop μ-loop
-mul-rounded-by-scale c = omega arith
-
-element-copy-out-rounded-by-scale : tie.Need-element-copy-out-rounded-by-scale Inv-loop μ-loop
-element-copy-out-rounded-by-scale c = omega arith
-
-mul-rounded-by-scale-2 : tie.Need-mul-rounded-by-scale-2 Inv-loop μ-loop
-mul-rounded-by-scale-2 c = omega arith
-
-element-copy-out-rounded-by-scale-2 : tie.Need-element-copy-out-rounded-by-scale-2 Inv-loop μ-loop
-element-copy-out-rounded-by-scale-2 c = omega arith
 
 mul-rounded-by-scale-3 : tie.Need-mul-rounded-by-scale-3 Inv-loop μ-loop
 mul-rounded-by-scale-3 c =
@@ -96,12 +78,6 @@ sub-s : tie.Need-sub-s Inv-loop μ-loop
 sub-s c =
     let d = c .before .before .before in
     rw (d .before .loop .inv .1, read-loss c) (next d)
-
-add-j : tie.Need-add-j Inv-loop μ-loop
-add-j c = omega arith
-
-loop-less : tie.Need-loop-less Inv-loop μ-loop
-loop-less c = omega arith
 
 loop-again : tie.Need-loop-again Inv-loop μ-loop
 loop-again c =
@@ -120,17 +96,17 @@ reduced-entry-spec =
     (tie.spec
     Inv-loop
     μ-loop
-    mul-s
-    element-copy-out-s
+    (λ c. omega arith)
+    (λ c. omega arith)
     loop-holds
-    mul-rounded-by-scale
-    element-copy-out-rounded-by-scale
-    mul-rounded-by-scale-2
-    element-copy-out-rounded-by-scale-2
+    (λ c. omega arith)
+    (λ c. omega arith)
+    (λ c. omega arith)
+    (λ c. omega arith)
     mul-rounded-by-scale-3
     (λ c κs. search needs)
     sub-s
-    add-j
-    loop-less
+    (λ c. omega arith)
+    (λ c. omega arith)
     loop-again
     returns)

@@ -1,23 +1,24 @@
 -- `substitution::sum_above` meets its contract. The loop's invariant: s is the sum of exactly the products so far.
 -- Assumes nothing.
-use mathlib.Core.Path.{_≡_, sym}
-use mathlib.Core.List.{List}
 use Prim.Native.Nat.{ℕ, suc, _+_, _-_, _≤_}
-use native.Mathlib.Omega.{arith}
-use lib.ListN.{getD}
 use lib.IntN.{ℤ, pos, _+ℤ_, _*ℤ_}
+use lib.ListN.{getD}
+use mathlib.Core.List.{List}
+use mathlib.Core.Path.{_≡_, sym}
+use mir.Facts.{toZ-ofZ}
 use mir.Syntax.{w64}
 use mir.Val.{SFits, toZ, ofZ}
-use mir.Facts.{toZ-ofZ}
-use Rattle.integers.specs.Sums.{sum, sum-empty}
-use Rattle.substitution.specs.Passes.{product-above}
-use Rattle.substitution.specs.Bounds.{Summable}
+use native.Mathlib.Omega.{arith}
+use Rattle.integers.specs.SumLaws.{sum-empty}
+use Rattle.integers.specs.Sums.{sum}
 use Rattle.substitution.specs.BackwardLaws.{working-fits, correction-fits, term-fits, sum-fits}
+use Rattle.substitution.specs.Bounds.{Summable}
+use Rattle.substitution.specs.Passes.{productAbove}
 use Rattle.substitution.proofs.sum_above.Statement.{statement}
 use Rattle.substitution.proofs.sum_above.Tie as tie
 
 abbrev Inv-loop : tie.InvT-loop
-Inv-loop row d i n s₀ j₀ s j = (suc i ≤ j) × (j ≤ n) × (toZ w64 s ≡ sum (j - suc i) (product-above row d i))
+Inv-loop row d i n s₀ j₀ s j = (suc i ≤ j) × (j ≤ n) × (toZ w64 s ≡ sum (j - suc i) (productAbove row d i))
 
 abbrev μ-loop : tie.MeasureT-loop
 μ-loop row d i n s₀ j₀ s j = n - j
@@ -51,32 +52,17 @@ module _ (c : tie.In-loop Inv-loop μ-loop) where
   read-term : toZ w64 (ofZ w64 (getD row′ j′ (pos 0) *ℤ getD d′ j′ (pos 0))) ≡ getD row′ j′ (pos 0) *ℤ getD d′ j′ (pos 0)
   read-term = toZ-ofZ (term-fits row′ d′ i′ n′ ready j′)
 
-  more : sum (j′ + 1 - suc i′) (product-above row′ d′ i′) ≡ sum (j′ - suc i′) (product-above row′ d′ i′) +ℤ getD row′ j′ (pos 0) *ℤ getD d′ j′ (pos 0)
+  more : sum (j′ + 1 - suc i′) (productAbove row′ d′ i′) ≡ sum (j′ - suc i′) (productAbove row′ d′ i′) +ℤ getD row′ j′ (pos 0) *ℤ getD d′ j′ (pos 0)
   more =
       let e : j′ + 1 - suc i′ ≡ suc (j′ - suc i′) = omega arith in
       let f : suc i′ + (j′ - suc i′) ≡ j′ = omega arith in
       rw (e, f)
 
-  next : SFits w64 (sum (j′ - suc i′) (product-above row′ d′ i′) +ℤ getD row′ j′ (pos 0) *ℤ getD d′ j′ (pos 0))
+  next : SFits w64 (sum (j′ - suc i′) (productAbove row′ d′ i′) +ℤ getD row′ j′ (pos 0) *ℤ getD d′ j′ (pos 0))
   next = rw more at (sum-fits row′ d′ i′ n′ ready (j′ + 1 - suc i′) (let p = ready .columns in omega arith))
-
-add-j : tie.Need-add-j Inv-loop μ-loop
-add-j c = omega arith
 
 loop-holds : tie.Need-loop-holds Inv-loop μ-loop
 loop-holds c = let p = c .pre .place in (omega arith, omega arith, sym (sum-empty (c .args .i + 1 - suc (c .args .i)) _ (omega arith)))
-
-mul-s : tie.Need-mul-s Inv-loop μ-loop
-mul-s c = omega arith
-
-element-copy-out-s : tie.Need-element-copy-out-s Inv-loop μ-loop
-element-copy-out-s c = omega arith
-
-mul-s-2 : tie.Need-mul-s-2 Inv-loop μ-loop
-mul-s-2 c = omega arith
-
-element-copy-out-s-2 : tie.Need-element-copy-out-s-2 Inv-loop μ-loop
-element-copy-out-s-2 c = omega arith
 
 mul-s-3 : tie.Need-mul-s-3 Inv-loop μ-loop
 mul-s-3 c =
@@ -87,12 +73,6 @@ add-s : tie.Need-add-s Inv-loop μ-loop
 add-s c =
     let d = c .before .before in
     rw (d .before .loop .inv .2, read-row d, read-d d, read-term d) (next d)
-
-add-j-2 : tie.Need-add-j-2 Inv-loop μ-loop
-add-j-2 c = omega arith
-
-loop-less : tie.Need-loop-less Inv-loop μ-loop
-loop-less c = omega arith
 
 loop-again : tie.Need-loop-again Inv-loop μ-loop
 loop-again c =
@@ -111,15 +91,15 @@ sum-above-spec =
     (tie.spec
     Inv-loop
     μ-loop
-    add-j
+    (λ c. omega arith)
     loop-holds
-    mul-s
-    element-copy-out-s
-    mul-s-2
-    element-copy-out-s-2
+    (λ c. omega arith)
+    (λ c. omega arith)
+    (λ c. omega arith)
+    (λ c. omega arith)
     mul-s-3
     add-s
-    add-j-2
-    loop-less
+    (λ c. omega arith)
+    (λ c. omega arith)
     loop-again
     returns)

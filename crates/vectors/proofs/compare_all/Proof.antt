@@ -6,10 +6,10 @@ use Rattle.vectors.proofs.compare_all.Statement.{statement}
 use Rattle.vectors.proofs.compare_all.Tie as tie
 
 abbrev Inv-loop : tie.InvT-loop
-Inv-loop fd texts results₀ agree₀ first-difference₀ results agree first-difference = Unit {0}
+Inv-loop fd stream results₀ agree₀ first-difference₀ results agree first-difference = Unit {0}
 
 abbrev μ-loop : tie.MeasureT-loop
-μ-loop fd texts results₀ agree₀ first-difference₀ results agree first-difference = 1000000 - results
+μ-loop fd stream results₀ agree₀ first-difference₀ results agree first-difference = 1000000 - results
 
 pub compare-all-spec : {M : Type 1} → statement M
 compare-all-spec =

@@ -1,43 +1,59 @@
--- `verdict_text::verdict_text` meets its contract: the refusal's line, or the lines of the answer. Assumes nothing.
-use mathlib.Core.Path.{subst}
-use denote.Ref.{now}
-use lib.ListN.{length}
-use Rattle.casefile.specs.Decode.{decode}
-use Rattle.buffer.specs.Buffer.{Wrote}
-use Rattle.ballast.specs.Call.{answer-of}
-use Rattle.verdict_text.specs.Verdict.{verdict-refused, verdict-accepted}
+-- `verdict_text::verdict_text` meets its contract: refusal 1, the refusal's line, or the lines of the answer. Assumes nothing.
 use borrow.Author.Needs.{needs}
+use denote.Ref.{now}
+use Rattle.ballast.specs.CallLaws.{same-answer}
+use Rattle.verdict_text.specs.VerdictLaws.{text-short, text-written, refusal-printed, refusal-room, answer-printed, answer-room}
 use Rattle.verdict_text.proofs.verdict_text.Statement.{statement}
 use Rattle.verdict_text.proofs.verdict_text.Tie as tie
 
 returns : tie.Need-returns
 returns c =
-    let a = c .before .before .before .before .before .before .before .before .before .before .before .args in
-    subst (λ t. Wrote t 0 (now (a .out)) (c .before .before .render-refusal .result) (c .before .before .render-refusal .last .1 .0))
-    (verdict-refused (length (now (a .out))) _ (answer-of (decode (now (a .input)))) (c .before .before .before .before .before .before .before .before .answer-case .ensures) _ _ (c .before .before .before .before .before .before .status .given .1) (c .before .before .before .before .number .ensures))
-    (c .before .before .render-refusal .ensures)
+    let a = c .before .before .before .args in
+    text-short (now (a .input)) (now (a .out)) (c .if1 .taken)
 
-enum-told : tie.Need-enum-told
-enum-told c = search needs
+render-refusal-requires : tie.Need-render-refusal-requires
+render-refusal-requires c κs =
+    let k = c .before .before .before .before .before .before in
+    let a = k .before .before .before .before .args in
+    refusal-room (now (a .input)) _ (same-answer _ _ (k .answer-case .ensures)) _ (c .before .before .before .status .given .1) _ (c .before .number .ensures) (now (a .out)) (k .before .if1 .left)
 
 returns-2 : tie.Need-returns-2
 returns-2 c =
-    let a = c .before .before .before .before .before .before .before .before .before .before .before .before .args in
-    subst (λ t. Wrote t 0 (now (a .out)) (c .before .before .render .result) (c .before .before .render .last .1 .1 .1 .1 .1 .0))
-    (verdict-accepted (length (now (a .out))) _ (answer-of (decode (now (a .input)))) (c .before .before .before .before .before .before .before .before .before .answer-case .ensures) (c .before .before .before .before .before .before .before .enum-told .given .1))
-    (c .before .before .render .ensures)
+    let f = c .before .before in
+    let k = f .before .before .before .before .before .before .before in
+    let a = k .before .before .before .before .args in
+    text-written (now (a .input)) (now (a .out)) (k .before .if1 .left)
+    (refusal-printed (now (a .input)) _ (same-answer _ _ (k .answer-case .ensures)) _ (f .before .before .before .before .status .given .1) _ (f .before .before .number .ensures))
+    (f .render-refusal .ensures)
+
+render-requires : tie.Need-render-requires
+render-requires c κs =
+    let e = c .before .before .before .before in
+    let k = e .before .before .before in
+    answer-room (now (k .before .before .before .before .args .input)) _ (same-answer _ _ (k .answer-case .ensures)) (e .enum-told .given .1) _ (k .before .if1 .left)
+
+returns-3 : tie.Need-returns-3
+returns-3 c =
+    let f = c .before .before in
+    let e = f .before .before .before .before .before in
+    let k = e .before .before .before in
+    let a = k .before .before .before .before .args in
+    text-written (now (a .input)) (now (a .out)) (k .before .if1 .left)
+    (answer-printed (now (a .input)) _ (same-answer _ _ (k .answer-case .ensures)) (e .enum-told .given .1))
+    (f .render .ensures)
 
 pub verdict-text-spec : {M : Type 1} → statement M
 verdict-text-spec =
     tie.close
     (tie.spec
-    (λ c κs. search needs)
-    (λ c. search needs)
-    (λ c κs. search needs)
-    (λ c κs. search needs)
-    (λ c. search needs)
     returns
-    enum-told
     (λ c κs. search needs)
     (λ c. search needs)
-    returns-2)
+    (λ c κs. search needs)
+    render-refusal-requires
+    (λ c. search needs)
+    returns-2
+    (λ c. search needs)
+    render-requires
+    (λ c. search needs)
+    returns-3)
