@@ -50,7 +50,12 @@ enum ballast_refusal {
     BALLAST_OUTSIDE_RANGE = -9     /* on the way a figure of the answer left +-10,000,000, or a correction +-20,000,000 */
 };
 
-/* Places in a record of n tanks; j and i count tanks and rows from 0. One byte each: */
+/* What a record says of a row with coefficients A, their tolerances E, right side b and its tolerance f, at the answer Y and D = 10^e:
+ * the residual R = D b - sum of A Y; the reach T = D f + sum of E |Y|, the largest residual that figures within the tolerances can make up for,
+ * so the row is met exactly if |R| is at most T; and |R| / T, the factor on the tolerances that the row needs (0 where R is 0, none where only T is).
+ * The row with the greatest factor decides, or the first that has none.
+ *
+ * Places in a record of n tanks; j and i count tanks and rows from 0. One byte each: */
 #define BALLAST_MET_AT 3                        /* 1 for met, 0 for not met */
 #define BALLAST_UNMET_AT 4                      /* the first unmet row, counted from 1, or 0 */
 #define BALLAST_ROUNDS_AT 5                     /* rounds used, 0 for a trial that the case brought */

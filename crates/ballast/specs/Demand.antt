@@ -8,7 +8,7 @@ use mathlib.Core.Path.{_≡_}
 use Rattle.judge.specs.Finding.{Justified}
 use Rattle.judge.specs.System.{Trial}
 use Rattle.outcome.specs.CallResult.{callResult}
-use Rattle.outcome.specs.CallResult.{callResult}
+use Rattle.outcome.specs.Outcome.{reportedOutcome}
 use Rattle.outcome.specs.declared.Outcome.{Outcome}
 use Rattle.outcome.specs.declared.Outcome.the-variants.{Count}
 use Rattle.casefile.specs.Case.{Case}
@@ -35,7 +35,7 @@ pub record Demand (input buffer : List ℕ) (m : ℕ) : Type 0 where
   pub finished : Finished case (take m buffer)
 
 abbrev pub Demanded : List ℕ → Outcome → List ℕ → Type 0
-Demanded input outcome buffer = (m : ℕ) → outcome ≡ Count m → Demand input buffer m
+Demanded input outcome buffer = (m : ℕ) → reportedOutcome outcome ≡ reportedOutcome (Count m) → Demand input buffer m
 
 -- what the call promises: its answer and the buffer are those of the definition, and every record is justified
 pub record Promise (input entry : List ℕ) (outcome : Outcome) (exit : List ℕ) : Type 0 where

@@ -69,11 +69,11 @@ module _ (s : System) (D rounds : ℕ) (Y : List ℤ) (h : 0 < s .n) (k : s .n �
   abbrev t : Trial
   t = trial (s .n) D Y
 
-  abbrev bytes : List ℕ
-  bytes = recordOf (s .n) rounds Y (judgement s t)
+  abbrev recordBytes : List ℕ
+  recordBytes = recordOf (s .n) rounds Y (judgement s t)
 
   -- the bytes agree with the judgement
-  agreeing : Agrees s t (recordedFinding (s .n) bytes)
+  agreeing : Agrees s t (recordedFinding (s .n) recordBytes)
   agreeing =
       let j = judgement s t in
       let g = judgement-agrees s t h k in
@@ -86,14 +86,14 @@ module _ (s : System) (D rounds : ℕ) (Y : List ℤ) (h : 0 < s .n) (k : s .n �
         T = λ i l. recorded-reach (s .n) rounds Y j i l (rw (g .T i l) (fits-reach i)) ∙ g .T i l;
       }
 
-  answered : (j : ℕ) → j < s .n → recordedAnswer bytes j ≡ getD Y j (pos 0)
+  answered : (j : ℕ) → j < s .n → recordedAnswer recordBytes j ≡ getD Y j (pos 0)
   answered j l = recorded-answer (s .n) rounds Y (judgement s t) j l (fits-answer j)
 
   -- so what they say of the answer that they hold is justified
-  record-justified : Justified s (record { n = s .n; D = D; Y = recordedAnswer bytes }) (recordedFinding (s .n) bytes)
+  record-justified : Justified s (record { n = s .n; D = D; Y = recordedAnswer recordBytes }) (recordedFinding (s .n) recordBytes)
   record-justified =
-      justified s (record { n = s .n; D = D; Y = recordedAnswer bytes }) h (recordedFinding (s .n) bytes)
-      (agrees-with t (recordedAnswer bytes) (λ j l. sym (answered j l)) s (recordedFinding (s .n) bytes) agreeing)
+      justified s (record { n = s .n; D = D; Y = recordedAnswer recordBytes }) h (recordedFinding (s .n) recordBytes)
+      (agrees-with t (recordedAnswer recordBytes) (λ j l. sym (answered j l)) s (recordedFinding (s .n) recordBytes) agreeing)
 
 -- ---- a finished case
 
@@ -162,7 +162,7 @@ promised input entry o exit e =
     record {
       called = e;
       demand = λ m q.
-          subst (λ b. Demand input b m) (ap (λ w. w .buffer) (sym e)) (demanded input entry m (ap (λ w. w .outcome) (sym e) ∙ ap reportedOutcome q));
+          subst (λ b. Demand input b m) (ap (λ w. w .buffer) (sym e)) (demanded input entry m (ap (λ w. w .outcome) (sym e) ∙ q));
     }
 
 -- ---- what a record asks of an answer: rows and rounds of a byte each

@@ -1,5 +1,4 @@
 // The call that takes a case and a result buffer and leaves the record.
-ghost use mathlib.Core.Path.{_≡_};
 ghost use Rattle.casefile.specs.Decode.{decode};
 ghost use Rattle.ballast.specs.Call.{trialAnswer, noAnswer, answerOf, AnswerIs};
 ghost use Rattle.ballast.specs.Demand.{Promise};
@@ -18,7 +17,7 @@ pub struct Answer {
 }
 
 fn refused(refusal: Refusal) -> Answer
-    ensures { λ r. ⌜ r ≡ noAnswer refusal ⌝ }
+    ensures { λ r. ⌜ AnswerIs r (noAnswer refusal) ⌝ }
 {
     let trial = [0i32; MOST_TANKS];
     let residuals = [0i64; MOST_TANKS];
@@ -46,7 +45,7 @@ fn refused(refusal: Refusal) -> Answer
 
 // The answer that a case brings, with no round used.
 fn given_trial(n: usize, exponent: usize, trial: [i32; MOST_TANKS], judgement: Judgement) -> Answer
-    ensures { λ r. ⌜ r ≡ trialAnswer n exponent trial judgement ⌝ }
+    ensures { λ r. ⌜ AnswerIs r (trialAnswer n exponent trial judgement) ⌝ }
 {
     let solution = Solution {
         status: Status::Accepted,

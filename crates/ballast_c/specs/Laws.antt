@@ -5,7 +5,6 @@ use mathlib.Core.List.{List}
 use mathlib.Core.Path.{_≡_, sym, ap, _∙_}
 use native.Mathlib.Omega.{arith}
 use Rattle.outcome.specs.CallResult.{callResult}
-use Rattle.outcome.specs.CallResult.{callResult}
 use Rattle.outcome.specs.Laws.{no-count}
 use Rattle.outcome.specs.Outcome.{reportedOutcome}
 use Rattle.outcome.specs.declared.Outcome.{Outcome}
@@ -60,7 +59,7 @@ module _ (input entry exit : List ℕ) (o : Outcome) (p : Promise input entry o 
   judged r e =
       record {
         called = returned o (p .called) r e;
-        demand = λ m q. p .demand m (number-count o m (sym e ∙ q));
+        demand = λ m q. p .demand m (ap reportedOutcome (number-count o m (sym e ∙ q)));
       }
 
 -- ---- writing

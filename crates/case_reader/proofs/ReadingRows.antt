@@ -17,7 +17,7 @@ use Rattle.outcome.specs.declared.Refusal.{Refusal}
 use Rattle.outcome.specs.declared.Status.{Status}
 use Rattle.outcome.specs.declared.Status.the-variants.{Accepted, Refused}
 use Rattle.figures.specs.LoopLaws.{ReadingItems, begun, stopped, turn, ended}
-use Rattle.fields.specs.AnswerLaws.{read-status, fields-read}
+use Rattle.fields.specs.AnswerLaws.{read-status, fields-read, read-made}
 use Rattle.fields.specs.DueLaws.{due-field}
 use Rattle.fields.specs.FieldLaws.{checked}
 use Rattle.casefile.specs.Decode.{rowAt, rowDue, rowStatus, rowsStatus}
@@ -27,8 +27,8 @@ use Rattle.casefile.specs.SoundLaws.{SoundBlock, counts, Rows, none, together-s
 use Rattle.case_reader.specs.Read.{RowFound, RowsFound}
 
 -- the lists after a row's parts of them, which begin at k and at m, were filled with r
-abbrev with-row : ℕ → ℕ → ℕ → Block → Block → Block
-with-row n k m lists r =
+abbrev withRow : ℕ → ℕ → ℕ → Block → Block → Block
+withRow n k m lists r =
     block
     (putMid k (k + n - k) (lists .A) (r .A))
     (putMid k (k + n - k) (lists .E) (r .E))
@@ -44,7 +44,7 @@ module _ {k m : ℕ} (d : Block) (c : Counts k m d) (lists₀ lists : Block) (e 
   over-lengths : HasRoom k m lists₀ → SameLengths lists lists₀
   over-lengths h = rw e (search (length-onto, le-trans, le-of-eq))
 
-  over-more : {n : ℕ} (r : Block) → Counts n 1 r → with-row n k m lists r ≡ over (stacked d r) lists₀
+  over-more : {n : ℕ} (r : Block) → Counts n 1 r → withRow n k m lists r ≡ over (stacked d r) lists₀
   over-more r h = rw e (search list-more)
 
 module _ (s : List ℕ) (at n : ℕ) (lists₀ : Block) where
@@ -80,11 +80,11 @@ module _ (s : List ℕ) (at n : ℕ) (lists₀ : Block) where
     past x e g = checked rowTag (rowLength n) s p refl refl refl .room (due-field (rowDue n) (drop p s) (sym e ∙ g))
 
     pub turn-rows : i < n → {size : ℕ} → size ≡ rowSize n → {x : Status} {row : Block} → RowFound n (drop p s) x row → x ≡ Accepted
-        → ReadingRows (with-row n from i lists row) (i + 1) (from + n) (p + size)
+        → ReadingRows (withRow n from i lists row) (i + 1) (from + n) (p + size)
     unfolding rowsStatus
     turn-rows h e {x} {row} w g =
         let acc : rowStatus n (drop p s) ≡ Accepted = sym (read-status w) ∙ g in
-        let made : row ≡ rowAt n (drop p s) = w .made g in
+        let made : row ≡ rowAt n (drop p s) = read-made w g in
         let so : SoundBlock n 1 row = rw made (row-sound n (drop p s) acc) in
         rw e
         (record {

@@ -10,7 +10,7 @@ use Rattle.rows.specs.Block.{Block, over, together}
 use Rattle.outcome.specs.Outcome.{first}
 use Rattle.outcome.specs.declared.Refusal.{Refusal}
 use Rattle.outcome.specs.declared.Status.the-variants.{Accepted, Refused}
-use Rattle.fields.specs.AnswerLaws.{read-status}
+use Rattle.fields.specs.AnswerLaws.{read-status, read-made}
 use Rattle.casefile.specs.Case.{caseWith}
 use Rattle.casefile.specs.CaseLaws.{head-limits}
 use Rattle.casefile.specs.Decode.{afterHead, headStatus, rowsStatus, rowsOf, trialOf, tailStatus, inputStatus, caseOf, refused, decode, padded, places, held, stored, reading, CaseRead}
@@ -41,7 +41,7 @@ module _ (s : List ℕ) (head : Head) (found : HeadFound s head) where
     accepted = sym (read-status found) ∙ h
 
     head-is : head ≡ headOf s
-    head-is = found .made h
+    head-is = read-made found h
 
     pub small : n ≤ mostTanks
     small = rw head-is (head-limits s accepted .small)

@@ -16,11 +16,11 @@ bound k = 2 ^ k * 2 ^ 23
 -- a row and the rows at the start: as defined, and within the bound. (The range of a coefficient's type is known where it is read.)
 pub record StartRow (row expected : List ℤ) : Type 0 where
   pub is : row ≡ expected
-  pub within : Within (bound 0) row
+  pub in-bound : Within (bound 0) row
 
 pub record StartRows (working expected : List (List ℤ)) : Type 0 where
   pub are : working ≡ expected
-  pub within : AllWithin (bound 0) working
+  pub in-bound : AllWithin (bound 0) working
 
 -- what a multiplier asks: a pivot that is not 0 and not above 2^30, and an entry that is not larger
 pub record Dividing (entry pivot : ℤ) : Type 0 where

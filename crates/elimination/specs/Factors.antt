@@ -107,7 +107,7 @@ kept-pivoted n r h8 h s p =
 kept-more : (n : ℕ) (r : Run) → n ≤ mostTanks → r .steps < n → Kept n r → 0 < largest n r → Kept n (stepped n r)
 kept-more n r h8 h s p =
     record {
-      all-in = within (decLt (r .steps + 1) n);
+      all-in = next-in (decLt (r .steps + 1) n);
       done = step-done w (r .steps) n q (exchange-done (r .working) (r .steps) n h p (s .done));
     }
   where
@@ -117,9 +117,9 @@ kept-more n r h8 h s p =
     q : Pivoted w (r .steps) n
     q = kept-pivoted n r h8 h s p
 
-    within : Dec (r .steps + 1 < n) → AllWithin (bound (min (r .steps + 1) (n - 1))) (eliminatedBelow w (r .steps) n)
-    within (yes l) = let e : min (r .steps + 1) (n - 1) ≡ r .steps + 1 = omega arith in rw e (step-grows w (r .steps) n q)
-    within (no l) =
+    next-in : Dec (r .steps + 1 < n) → AllWithin (bound (min (r .steps + 1) (n - 1))) (eliminatedBelow w (r .steps) n)
+    next-in (yes l) = let e : min (r .steps + 1) (n - 1) ≡ r .steps + 1 = omega arith in rw e (step-grows w (r .steps) n q)
+    next-in (no l) =
         let e : min (r .steps + 1) (n - 1) ≡ r .steps = omega arith in
         rw (e, last-step w (r .steps) n (omega arith)) (q .all-in)
 

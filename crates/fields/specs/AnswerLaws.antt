@@ -14,7 +14,11 @@ module _ {A : Type 0} {due : Status} {value : A} {x : Status} {out : A} where
   read-status f = same-status x due (f .number)
 
   pub fields-read : x ≡ due → (x ≡ Accepted → out ≡ value) → FieldsRead due value x out
-  fields-read e m = record { number = ap statusNumber e; made = m }
+  fields-read e m = record { number = ap statusNumber e; made = λ z. m (same-status x Accepted z) }
+
+  -- what was read, where nothing is refused
+  pub read-made : FieldsRead due value x out → x ≡ Accepted → out ≡ value
+  read-made f e = f .made (ap statusNumber e)
 
 module _ {A : Type 0} {value out : A} {x s : Status} (e : x ≡ s) where
   -- the field is refused

@@ -9,7 +9,6 @@ use mathlib.Core.Path.{_≡_}
 use Rattle.outcome.specs.Outcome.{statusNumber, check, first}
 use Rattle.outcome.specs.declared.Refusal.the-variants.{OutsideLimits, TrailingBytes}
 use Rattle.outcome.specs.declared.Status.{Status}
-use Rattle.outcome.specs.declared.Status.the-variants.{Accepted}
 use Rattle.fields.specs.Field.{endTag, endLength, endSize, valueOf, fieldStatus}
 
 -- a field that is due: its tag and length, what its value is read as, whether that is within its limits, and its value's bytes
@@ -35,4 +34,4 @@ endStatus s = first (fieldStatus endTag endLength s) (check (eqb (length s) endS
 -- fields that were read: the status due, by the paper's number, and where nothing is refused what was read
 pub record FieldsRead {A : Type 0} (due : Status) (value : A) (status : Status) (out : A) : Type 0 where
   pub number : statusNumber status ≡ statusNumber due
-  pub made : status ≡ Accepted → out ≡ value
+  pub made : statusNumber status ≡ 0 → out ≡ value

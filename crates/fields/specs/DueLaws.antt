@@ -17,10 +17,10 @@ use Rattle.fields.specs.Field.{lengthSize, headerSize, field, endTag, en
 use Rattle.fields.specs.FieldLaws.{field-value, field-after, field-accepted, value-room, field-is, field-same}
 
 -- bytes that were written are read back as x, whatever follows them
-pub record FieldBack {A : Type 0} (status : List ℕ → Status) (at : List ℕ → A) (size : ℕ) (beBytes : List ℕ) (x : A) (rest : List ℕ) : Type 0 where
-  pub accepted : status (beBytes ++ rest) ≡ Accepted
-  pub read : at (beBytes ++ rest) ≡ x
-  pub after : drop size (beBytes ++ rest) ≡ rest
+pub record FieldBack {A : Type 0} (status : List ℕ → Status) (at : List ℕ → A) (size : ℕ) (s : List ℕ) (x : A) (rest : List ℕ) : Type 0 where
+  pub accepted : status (s ++ rest) ≡ Accepted
+  pub read : at (s ++ rest) ≡ x
+  pub after : drop size (s ++ rest) ≡ rest
 
 module _ {A : Type 0} (d : Due A) where
   -- a field that was written

@@ -56,8 +56,8 @@ afterField len s = drop (headerSize + len) s
 -- document 01, refusals 2 to 5 in turn, by their tests: "Fewer than three bytes are left where a field must start", "The tag is not the one due at this
 -- place", "The length is not the one due for this tag and n", "The value is cut short by the end of the input"
 abbrev pub inTurn : Bool → Bool → Bool → Bool → Status
-inTurn started tagged measured whole =
-    first (check started FieldMissing) (first (check tagged WrongTag) (first (check measured WrongLength) (check whole ValueCutShort)))
+inTurn started tagged sized whole =
+    first (check started FieldMissing) (first (check tagged WrongTag) (first (check sized WrongLength) (check whole ValueCutShort)))
 
 unfoldable pub fieldStatus : ℕ → ℕ → List ℕ → Status
 fieldStatus tag len s =

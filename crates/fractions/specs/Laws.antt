@@ -121,7 +121,6 @@ module _ (f g h : Fraction) where
 
 -- what is not at most is above, so the strict order goes along
 module _ (f g h : Fraction) where
-
   pub ≼-≺-trans : f ≼ g → g ≺ h → f ≺ h
   ≼-≺-trans p q = go (≼-total h f)
     where

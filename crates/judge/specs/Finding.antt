@@ -8,8 +8,8 @@ use lib.ListN.{getD}
 use mathlib.Core.Bool.{Bool, true, false}
 use mathlib.Core.Path.{_≡_}
 use Rattle.fractions.specs.Fraction.{orderedDenominator}
-use Rattle.judge.specs.Perturbation.{Solve, Keep, Possible, PossibleUnder, yieldedPerturbation}
 use Rattle.judge.specs.Judgement.{firstUnmet, deciding, noFactor}
+use Rattle.judge.specs.Perturbation.{Solve, Keep, Possible, PossibleUnder, yieldedPerturbation}
 use Rattle.judge.specs.System.{System, Trial, row, residual, reach}
 use Rattle.judge.specs.declared.Judgement.{Judgement}
 

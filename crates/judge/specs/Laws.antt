@@ -105,7 +105,7 @@ module _ (s : System) (t : Trial) (h : s .n ≤ mostTanks) where
   unfolding firstUnmet
   unmet-is = first-not-cong _ _ (s .n) (λ i l. ap₂ rowMet (at-residuals i l) (at-reaches i l))
 
-  -- the standing, from residuals and reaches in eight places
+  -- the measurement, from residuals and reaches in eight places
   pub measurement-by-parts : (u : ℕ) (R : List ℤ) (T : List ℕ) → R ≡ residualVector s t → T ≡ reachVector s t
       → u ≡ firstNot (λ i. rowMet (getD R i (pos 0)) (getD T i 0)) (s .n)
       → record { unmet = u; residuals = R; reaches = T } ≡ measurement s t
@@ -116,12 +116,12 @@ module _ (s : System) (t : Trial) (h : s .n ≤ mostTanks) where
   unfolding decidingPlace deciding
   deciding-is = first-greatest-cong _ _ (s .n) (λ i l. ap₂ factor (at-residuals i l) (at-reaches i l))
 
--- the judgement is concluded from the standing
+-- the judgement is concluded from the measurement
 pub judgement-concluded : (s : System) (t : Trial) → concluded (s .n) (measurement s t) ≡ judgement s t
 unfolding judgement
 judgement-concluded s t = refl
 
--- the standing, from residuals and reaches that were formed each from its own part of the system
+-- the measurement, from residuals and reaches that were formed each from its own part of the system
 pub measured-by-parts : (n : ℕ) (A : List ℤ) (E : List ℕ) (b : List ℤ) (f : List ℕ) (t : Trial) → n ≤ mostTanks → (u : ℕ) (R : List ℤ) (T : List ℕ)
     → R ≡ residualVector (system n A [] b []) t → T ≡ reachVector (system n [] E [] f) t → u ≡ firstNot (λ i. rowMet (getD R i (pos 0)) (getD T i 0)) n
     → record { unmet = u; residuals = R; reaches = T } ≡ measurement (system n A E b f) t
@@ -135,7 +135,7 @@ pub conclusion : (n : ℕ) (p : Measurement) (at : ℕ) (none : Bool) → at ≡
 unfolding concluded
 conclusion n p at none ea en = rw (en, ea, add-one (decidingPlace n p))
 
--- a trial is met exactly if no row of its standing is unmet
+-- a trial is met exactly if no row of its measurement is unmet
 pub met-is : (s : System) (t : Trial) → judgement s t .met ≡ eqb (measurement s t .unmet) 0
 unfolding judgement
 met-is s t = refl

@@ -38,8 +38,8 @@ module _ (r : Row) (t : Trial) (k : Perturbation) where
 
   module _ (u v : ℕ) (h : Under u v r t k) where
     -- the sum of the changes is bounded like each of them
-    rowMet : v * natAbs (sum (t .n) (λ j. k .a j *ℤ t .Y j)) ≤ u * k .q * total (t .n) (λ j. r .E j * natAbs (t .Y j))
-    rowMet =
+    changes-bounded : v * natAbs (sum (t .n) (λ j. k .a j *ℤ t .Y j)) ≤ u * k .q * total (t .n) (λ j. r .E j * natAbs (t .Y j))
+    changes-bounded =
         sum-within v (u * k .q) (t .n) _ _
         (λ j l. omega (arith, ap (λ x. v * x) (natAbs-*ℤ (k .a j) (t .Y j)), mul-le-mul-right (natAbs (t .Y j)) (h .coefficients j l)))
 
@@ -47,7 +47,7 @@ module _ (r : Row) (t : Trial) (k : Perturbation) where
     unfolding reach
     needed s =
         le-of-mul-le-mul-left {k = k .q}
-        (omega (arith, mul-le-mul-left v (size s), rowMet, mul-le-mul-left (t .D) (h .right-side)))
+        (omega (arith, mul-le-mul-left v (size s), changes-bounded, mul-le-mul-left (t .D) (h .right-side)))
         (s .positive)
 
 -- ---- the changes that are yielded

@@ -43,7 +43,7 @@ pub record PossibleUnder (u v : ℕ) (r : Row) (t : Trial) : Type 0 where
 
 -- ---- the changes that a record of "met" yields, by its own residual R and reach T (equation 7.9)
 
--- a coefficient changes by E R / T, "the sign turned where Y is negative and no change where Y is zero" (`turned` of integers/Size), the right side
+-- a coefficient changes by E R / T, "the sign turned where Y is negative and no change where Y is zero" (`turned` of integers/Sign), the right side
 -- by − f R / T; all are zero where T is zero
 abbrev pub yieldedPerturbation : Row → Trial → ℤ → ℕ → Perturbation
 yieldedPerturbation r t R zero = record { a = λ j. pos 0; c = pos 0; q = 1 }

@@ -28,7 +28,7 @@ module _ (s : System) (t : Trial) (a b y : ℕ)
         sum-bound (t .n) (a * y) (λ j. row s i .A j *ℤ t .Y j) (λ j l. product-ok (row s i .A j) (t .Y j) a y (coefficients (i * s .n + j)) (figures j)),
       )
 
-  -- the same of every residual that a standing holds
+  -- the same of every residual that a measurement holds
   pub measurement-size : (i : ℕ) → natAbs (getD (measurement s t .residuals) i (pos 0)) ≤ t .D * b + t .n * (a * y)
   measurement-size =
       all-filled (λ (z : ℤ). natAbs z ≤ t .D * b + t .n * (a * y)) (pos 0) (omega arith) mostTanks (s .n) (λ i. residual (row s i) t) (λ i l. residual-size i)

@@ -11,11 +11,11 @@ use Rattle.fractions.specs.Fraction.{orderedDenominator}
 use Rattle.fractions.specs.Greatest.{First}
 use Rattle.fractions.specs.GreatestLaws.{first-greatest-is}
 use Rattle.fractions.specs.Laws.{cross-from-base, cross-to-base}
-use Rattle.judge.specs.Perturbation.{Possible}
 use Rattle.judge.specs.Finding.{Finding, factorNumerator, AllPossible, AllUnder, FirstImpossible, Least, Yields, Justified, Agrees}
 use Rattle.judge.specs.Judgement.{rowMet, factor, noFactor, firstUnmet, deciding}
 use Rattle.judge.specs.Laws.{Fails, first-not-zero, first-not-suc}
 use Rattle.judge.specs.OettliPrager.{oettli-prager, within-tolerances, yielded-keep}
+use Rattle.judge.specs.Perturbation.{Possible}
 use Rattle.judge.specs.System.{System, Trial, row, residual, reach}
 
 -- a fraction with a factor is proper; one without has a numerator over 0

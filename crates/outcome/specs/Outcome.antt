@@ -5,11 +5,11 @@ use lib.ListN.{getD}
 use mathlib.Core.Bool.{Bool, true, false}
 use mathlib.Core.List.{List, [], _∷_}
 use Rattle.outcome.specs.declared.Outcome.{Outcome}
-use Rattle.outcome.specs.declared.Outcome.the-variants.{Count, Refused}
+use Rattle.outcome.specs.declared.Outcome.the-variants.{Count, Refused as RefusedBy}
 use Rattle.outcome.specs.declared.Refusal.{Refusal}
 use Rattle.outcome.specs.declared.Refusal.the-variants.{BufferTooShort, FieldMissing, WrongTag, WrongLength, ValueCutShort, OutsideLimits, TrailingBytes, ZeroPivot, OutsideRange}
 use Rattle.outcome.specs.declared.Status.{Status}
-use Rattle.outcome.specs.declared.Status.the-variants.{Accepted, Refused as RefusedBy}
+use Rattle.outcome.specs.declared.Status.the-variants.{Accepted, Refused}
 
 -- document 01, "Refused, in this order"
 abbrev pub numberOf : Refusal → ℕ
@@ -44,11 +44,11 @@ refusalOf k = getD refusals (k - 1) OutsideRange
 -- "Every outcome says whether its number is a count or a refusal": whether it refuses, and its number
 abbrev pub refuses : Outcome → Bool
 refuses (Count m) = false
-refuses (Refused r) = true
+refuses (RefusedBy r) = true
 
 abbrev pub outcomeNumber : Outcome → ℕ
 outcomeNumber (Count m) = m
-outcomeNumber (Refused r) = numberOf r
+outcomeNumber (RefusedBy r) = numberOf r
 
 -- an outcome as the paper has it, in which every promise of a call is made
 pub record ReportedOutcome : Type 0 where
@@ -61,14 +61,14 @@ reportedOutcome o = record { refused = refuses o; number = outcomeNumber o }
 -- a status as the paper has it, in which every promise of a check is made: 0 where nothing is refused
 abbrev pub statusNumber : Status → ℕ
 statusNumber Accepted = 0
-statusNumber (RefusedBy r) = numberOf r
+statusNumber (Refused r) = numberOf r
 
 -- a test, and the refusal where it fails
 abbrev pub check : Bool → Refusal → Status
 check true r = Accepted
-check false r = RefusedBy r
+check false r = Refused r
 
 -- the first refusal of two checks
 abbrev pub first : Status → Status → Status
 first Accepted t = t
-first (RefusedBy r) t = RefusedBy r
+first (Refused r) t = Refused r

@@ -16,19 +16,19 @@ use Rattle.rounding.specs.HalfLaws.{half-away, up-half, stays-half, half
 use Rattle.rounding.specs.Round.{near, rnd, Defined}
 use Rattle.rounding.specs.Scale.{multiplierScale}
 
--- ---- of naturals: within half of the divisor
+-- ---- of naturals: near-by-half half of the divisor
 
 -- with the quotient d and the remainder r of a by b
-within : (a b d r : ℕ) (up : Bool) → d * b + r ≡ a → r < b → (up ≡ true → b ≤ 2 * r) → (up ≡ false → 2 * r ≤ b)
+near-by-half : (a b d r : ℕ) (up : Bool) → d * b + r ≡ a → r < b → (up ≡ true → b ≤ 2 * r) → (up ≡ false → 2 * r ≤ b)
     → (2 * (b * (d + cond up 1 0)) ≤ 2 * a + b) × (2 * a ≤ 2 * (b * (d + cond up 1 0)) + b)
-within a b d r true e l h k = let i = h refl in (omega arith, omega arith)
-within a b d r false e l h k = let i = k refl in (omega arith, omega arith)
+near-by-half a b d r true e l h k = let i = h refl in (omega arith, omega arith)
+near-by-half a b d r false e l h k = let i = k refl in (omega arith, omega arith)
 
 near-within : (a b : ℕ) → 0 < b → (2 * (b * near a b) ≤ 2 * a + b) × (2 * a ≤ 2 * (b * near a b) + b)
 unfolding near
 near-within a zero h = absurd (omega arith)
 near-within a (suc b) h =
-    within a (suc b) (a / suc b) (a % suc b) (roundsUp (a / suc b) (a % suc b) (suc b)) (div-add-mod' a (suc b)) (mod-lt a h)
+    near-by-half a (suc b) (a / suc b) (a % suc b) (roundsUp (a / suc b) (a % suc b) (suc b)) (div-add-mod' a (suc b)) (mod-lt a h)
     (up-half (a / suc b) (a % suc b) (suc b)) (stays-half (a / suc b) (a % suc b) (suc b))
 
 near-le : (a b m : ℕ) → a ≤ m * b → near a b ≤ m
@@ -124,7 +124,7 @@ mul-rnd (pos (suc a)) (negsuc b) = negℤ-*ℤ-negℤ (pos (suc b)) (pos (near (
 mul-rnd (negsuc a) (pos b) = *ℤ-negℤ (pos b) (pos (near (suc a) b))
 mul-rnd (negsuc a) (negsuc b) = refl
 
--- q rnd(p/q) is within half of q from p
+-- q rnd(p/q) is near-by-half half of q from p
 pub rnd-near : (p q : ℤ) → 0 < natAbs q → 2 * natAbs (q *ℤ rnd p q -ℤ p) ≤ natAbs q
 rnd-near p q h =
     let w = near-within (natAbs p) (natAbs q) h in

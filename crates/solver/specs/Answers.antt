@@ -20,7 +20,7 @@ use Rattle.elimination.specs.Steps.{eliminated}
 use Rattle.elimination.specs.declared.Elimination.{Elimination}
 use Rattle.elimination.specs.declared.Elimination.the-variants.{Complete, ZeroPivot as Stopped}
 use Rattle.outcome.specs.declared.Refusal.the-variants.{ZeroPivot, OutsideRange}
-use Rattle.outcome.specs.declared.Status.the-variants.{Accepted, Refused as RefusedBy}
+use Rattle.outcome.specs.declared.Status.the-variants.{Accepted, Refused}
 use Rattle.solver.specs.Claims.{KeptAnswer, Rounds, Advanced, ZeroPivotFound}
 use Rattle.solver.specs.Laws.{round-cases, refined-places}
 use Rattle.solver.specs.Limits.{Measured}
@@ -83,11 +83,11 @@ module _ (s : System) (D K : ℕ) where
   last-reached = reached (eliminated (s .n) (s .rows .A) .working) (eliminated (s .n) (s .rows .A) .order) s D K (start s D) (start-measured s D (start s D) refl)
 
   -- by the elimination's outcome
-  cases : (P : Solution → Type 0) → P (answeredSolution s D last) → ((k : ℕ) → outcome (s .n) (eliminated (s .n) (s .rows .A) .steps) ≡ Stopped k → P (keptSolution s D (RefusedBy ZeroPivot) (start s D))) → P (solution s D K)
+  cases : (P : Solution → Type 0) → P (answeredSolution s D last) → ((k : ℕ) → outcome (s .n) (eliminated (s .n) (s .rows .A) .steps) ≡ Stopped k → P (keptSolution s D (Refused ZeroPivot) (start s D))) → P (solution s D K)
   unfolding solution
   cases P a b = go (outcome (s .n) (eliminated (s .n) (s .rows .A) .steps)) refl
     where
-      go : (e : Elimination) → outcome (s .n) (eliminated (s .n) (s .rows .A) .steps) ≡ e → P (byElimination e (answeredSolution s D last) (keptSolution s D (RefusedBy ZeroPivot) (start s D)))
+      go : (e : Elimination) → outcome (s .n) (eliminated (s .n) (s .rows .A) .steps) ≡ e → P (byElimination e (answeredSolution s D last) (keptSolution s D (Refused ZeroPivot) (start s D)))
       go Complete q = a
       go (Stopped k) q = b k q
 
@@ -111,7 +111,7 @@ module _ (s : System) (D K : ℕ) where
       met-is s (trial (s .n) D (last .trial))
       ∙ eq-eqb _ _ (sym (ap (λ (m : Measurement). m .unmet) (last-reached .measured-is .measurement-is)) ∙ e)
 
-  within-accepted : (t : Bool) → cond t Accepted (RefusedBy OutsideRange) ≡ Accepted → t ≡ true
+  within-accepted : (t : Bool) → cond t Accepted (Refused OutsideRange) ≡ Accepted → t ≡ true
   within-accepted true e = refl
   within-accepted false e = absurd (let z : _≡_ {A = ℕ} 0 1 = cc in omega arith)
 
@@ -125,16 +125,16 @@ module _ (s : System) (D K : ℕ) where
       (λ k q e. absurd (let z : _≡_ {A = ℕ} 0 1 = cc in omega arith))
 
   -- refusal 8 exactly if at some step every candidate for the pivot is zero
-  pub zero-pivot-refused : (k : ℕ) → ZeroColumn (s .n) (s .rows .A) k → solution s D K .status ≡ RefusedBy ZeroPivot
+  pub zero-pivot-refused : (k : ℕ) → ZeroColumn (s .n) (s .rows .A) k → solution s D K .status ≡ Refused ZeroPivot
   zero-pivot-refused k c =
       ap (λ (r : Solution). r .status) (sym (solution-refused s D K k (start s D) refl (column-zero-pivot (s .n) (s .rows .A) k c)))
 
-  status-not : (t : Bool) → cond t Accepted (RefusedBy OutsideRange) ≡ RefusedBy ZeroPivot → ⊥
+  status-not : (t : Bool) → cond t Accepted (Refused OutsideRange) ≡ Refused ZeroPivot → ⊥
   status-not true e = let z : _≡_ {A = ℕ} 0 1 = cc in omega arith
   status-not false e = let z : _≡_ {A = ℕ} 0 1 = cc in omega arith
 
-  pub refused-zero-pivot : solution s D K .status ≡ RefusedBy ZeroPivot → ZeroPivotFound s
+  pub refused-zero-pivot : solution s D K .status ≡ Refused ZeroPivot → ZeroPivotFound s
   refused-zero-pivot =
-      cases (λ r. r .status ≡ RefusedBy ZeroPivot → ZeroPivotFound s)
+      cases (λ r. r .status ≡ Refused ZeroPivot → ZeroPivotFound s)
       (λ e. absurd (status-not (last .within) e))
       (λ k q e. record { step = k; column = zero-pivot-column (s .n) (s .rows .A) k q })

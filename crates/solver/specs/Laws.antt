@@ -66,8 +66,8 @@ kept-places d j (suc m) Y = go (leb (natAbs (correctedFigure Y d j)) figureLimit
     go true r = r ∙ length-set Y j (correctedFigure Y d j)
     go false r = refl
 
-gained-places : (n : ℕ) (Y : List ℤ) (d : Corrections) → length (corrected n Y d .trial) ≡ length Y
-gained-places n Y d = go (d .within)
+corrected-places : (n : ℕ) (Y : List ℤ) (d : Corrections) → length (corrected n Y d .trial) ≡ length Y
+corrected-places n Y d = go (d .within)
   where
     go : (t : Bool) → length ((cond t (correctedFrom (d .values) 0 n Y) (update false Y)) .trial) ≡ length Y
     go true = kept-places (d .values) 0 n Y
@@ -90,7 +90,7 @@ module _ (w : List (List ℤ)) (o : List ℕ) (s : System) (D : ℕ) where
 
   round-places : (p : Progress) → length (round w o s D p .trial) ≡ length (p .trial)
   unfolding round updated
-  round-places p = go (updated w o s D (p .trial)) (gained-places (s .n) (p .trial) (substituted w (orderedResiduals o s (trial (s .n) D (p .trial))) (s .n)))
+  round-places p = go (updated w o s D (p .trial)) (corrected-places (s .n) (p .trial) (substituted w (orderedResiduals o s (trial (s .n) D (p .trial))) (s .n)))
     where
       go : (u : Update) → length (u .trial) ≡ length (p .trial) → length (afterUpdate s D p u .trial) ≡ length (p .trial)
       go u k = pick (u .within)
@@ -109,7 +109,7 @@ module _ (w : List (List ℤ)) (o : List ℕ) (s : System) (D : ℕ) where
       go true q r e = e
       go false q r e = r ∙ e
 
-  -- as code finds it: the update u, and the standing m of its trial
+  -- as code finds it: the update u, and the measurement m of its trial
   module _ (p : Progress) (u : Update) (e : u ≡ updated w o s D (p .trial)) where
     pub round-on : (m : Measurement) → u .within ≡ true → m ≡ measurement s (trial (s .n) D (u .trial))
         → record { within = true; rounds = p .rounds + 1; trial = u .trial; measurement = m } ≡ round w o s D p

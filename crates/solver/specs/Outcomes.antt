@@ -29,7 +29,7 @@ use Rattle.solver.specs.declared.Solution.{Solution}
 
 -- ---- the kept trial, as the code finds it
 
--- what is concluded from the standing beside a trial is the trial's judgement
+-- what is concluded from the measurement beside a trial is the trial's judgement
 pub kept-concluded : (s : System) (D n : ℕ) (t : Status) (p : Progress) (j : Judgement) → s .n ≡ n → n ≤ mostTanks → Measured s D p → j ≡ concluded n (p .measurement)
     → record { status = t; rounds = p .rounds; trial = p .trial; judgement = j } ≡ keptSolution s D t p
 kept-concluded s D n t p j e h m q =

@@ -23,7 +23,7 @@ use Rattle.solver.specs.declared.Solution.{Solution}
 abbrev pub judgedTrial : System → ℕ → Status → ℕ → List ℤ → Solution
 judgedTrial s D t k Y = record { status = t; rounds = k; trial = Y; judgement = judgement s (trial (s .n) D Y) }
 
--- Which trial is kept is chosen here alone: the last, be it the first that is met or the one after round K.
+-- which trial is kept: the last, be it the first that is met or the one after round K.
 abbrev pub keptSolution : System → ℕ → Status → Progress → Solution
 keptSolution s D t p = judgedTrial s D t (p .rounds) (p .trial)
 

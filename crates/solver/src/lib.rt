@@ -229,7 +229,7 @@ fn start<'a>(
 // The kept trial of n rows with its judgement, in whatever system it was measured.
 fn kept(n: usize, status: Status, progress: Progress) -> Solution
     requires { ⌜ n ≤ mostTanks ⌝ }
-    ensures { λ r. ⌜ ((s : System) (D : ℕ) → s .n ≡ n → Measured s D progress → r ≡ keptOf s D status progress) ⌝ }
+    ensures { λ r. ⌜ ((s : System) (D : ℕ) → s .n ≡ n → Measured s D progress → SolutionIs r (keptOf s D status progress)) ⌝ }
 {
     let trial = progress.trial;
     let judgement = conclude(n, progress.measurement);
@@ -243,7 +243,7 @@ fn kept(n: usize, status: Status, progress: Progress) -> Solution
 
 fn answered(n: usize, progress: Progress) -> Solution
     requires { ⌜ n ≤ mostTanks ⌝ }
-    ensures { λ r. ⌜ ((s : System) (D : ℕ) → s .n ≡ n → Measured s D progress → r ≡ answeredOf s D progress) ⌝ }
+    ensures { λ r. ⌜ ((s : System) (D : ℕ) → s .n ≡ n → Measured s D progress → SolutionIs r (answeredOf s D progress)) ⌝ }
 {
     if progress.within {
         kept(n, Status::Accepted, progress)

@@ -56,12 +56,12 @@ pub record Figures : Type 0 where
 
 -- n rows, read off the record's bytes by position
 abbrev figuresOf : ℕ → Finding → List ℕ → Figures
-figuresOf n w beBytes =
+figuresOf n w s =
     record {
       met = w .met;
       unmet = w .unmet;
-      rounds = recordedRounds beBytes;
-      answer = table n (recordedAnswer beBytes);
+      rounds = recordedRounds s;
+      answer = table n (recordedAnswer s);
       residuals = table n (w .R);
       reaches = table n (w .T);
       factor = factorOf (w .none) (factorNumerator w) (factorDenominator w);
@@ -69,7 +69,7 @@ figuresOf n w beBytes =
     }
 
 abbrev pub readOff : ℕ → List ℕ → Figures
-readOff n beBytes = figuresOf n (recordedFinding n beBytes) beBytes
+readOff n s = figuresOf n (recordedFinding n s) s
 
 -- ---- what a call gives
 

@@ -6,17 +6,17 @@ use mathlib.Core.List.{List, map, List·Memᴰ, List·Memᴰ·head, List·Memᴰ
 use mathlib.Core.Path.{_≡_, refl}
 use Rattle.recordfile.specs.Layout.{recordLength, longestRecord}
 use Rattle.trials.specs.Result.{Result, recorded, refused, lent, found}
-use Rattle.trials.specs.Trials.{Expected, figures, refusal, Trial, trials}
+use Rattle.trials.specs.Trials.{Expected, figures, refusal, MarkedTrial, trials}
 
 -- "The count returned is the record's length", "beyond the record stays as it was", "Any refusal .. returns its number and changes no byte"
 abbrev pub due : ℕ → Expected → Result
 due n (figures g) = recorded (recordLength n) g (drop (recordLength n) (lent longestRecord))
 due n (refusal k) = refused k (lent longestRecord)
 
-abbrev pub trialOutcome : Trial → Result
+abbrev pub trialOutcome : MarkedTrial → Result
 trialOutcome t = found (t .case)
 
-abbrev pub expectedOf : Trial → Result
+abbrev pub expectedOf : MarkedTrial → Result
 expectedOf t = due (t .case .n) (t .expected)
 
 -- the whole list, by computation
@@ -30,5 +30,5 @@ agree f g (List·Memᴰ·head p) e = cc
 agree f g (List·Memᴰ·tail m) e = agree f g m (cc)
 
 -- and so each trial of it
-pub each-as-expected : (t : Trial) → List·Memᴰ t trials → trialOutcome t ≡ expectedOf t
+pub each-as-expected : (t : MarkedTrial) → List·Memᴰ t trials → trialOutcome t ≡ expectedOf t
 each-as-expected t m = agree trialOutcome expectedOf m as-expected

@@ -16,7 +16,7 @@ pub data Expected : Type 0 where
   refusal : ℕ → Expected
 
 -- a trial of that list, and no trial answer
-pub record Trial : Type 0 where
+pub record MarkedTrial : Type 0 where
   pub case : Case
   pub expected : Expected
 
@@ -41,7 +41,7 @@ whereUnmet unmet rounds Y R T factor row =
 -- ---- one tank
 
 -- "The case printed above.": A 5, b −2, no tolerances, e 1, K 1
-abbrev pub printedTrial : Trial
+abbrev pub printedTrial : MarkedTrial
 printedTrial =
     record {
       case = oneTank 1 1 (pos 5) 0 (negsuc 1) 0 [];
@@ -49,7 +49,7 @@ printedTrial =
     }
 
 -- "A 3, b 1, E 0, f 1, e 1, K 1: Y 3, R 1, T 10, met."
-abbrev rightTolerance : Trial
+abbrev rightTolerance : MarkedTrial
 rightTolerance =
     record {
       case = oneTank 1 1 (pos 3) 0 (pos 1) 1 [];
@@ -57,7 +57,7 @@ rightTolerance =
     }
 
 -- "The same with f 0: not met, factor none."
-abbrev noTolerance : Trial
+abbrev noTolerance : MarkedTrial
 noTolerance =
     record {
       case = oneTank 1 1 (pos 3) 0 (pos 1) 0 [];
@@ -65,7 +65,7 @@ noTolerance =
     }
 
 -- "With E 1, f 0: T 3, met."
-abbrev coefficientTolerance : Trial
+abbrev coefficientTolerance : MarkedTrial
 coefficientTolerance =
     record {
       case = oneTank 1 1 (pos 3) 1 (pos 1) 0 [];
@@ -73,7 +73,7 @@ coefficientTolerance =
     }
 
 -- "The same with b −1, f 1: Y −3, R −1.": with E 0, as in the first of these three
-abbrev negative : Trial
+abbrev negative : MarkedTrial
 negative =
     record {
       case = oneTank 1 1 (pos 3) 0 (negsuc 0) 1 [];
@@ -81,7 +81,7 @@ negative =
     }
 
 -- and with E 1, as in the last of them: T is 10 × 1 + 1 × |−3|
-abbrev negativeBoth : Trial
+abbrev negativeBoth : MarkedTrial
 negativeBoth =
     record {
       case = oneTank 1 1 (pos 3) 1 (negsuc 0) 1 [];
@@ -89,7 +89,7 @@ negativeBoth =
     }
 
 -- "A 2, b 1, E 0, f 1, K 1: Y 1, R −1, T 1, met."
-abbrev half : Trial
+abbrev half : MarkedTrial
 half =
     record {
       case = oneTank 0 1 (pos 2) 0 (pos 1) 1 [];
@@ -97,7 +97,7 @@ half =
     }
 
 -- "A 2, b 4, E 1, f 0, trial 1: R 2, T 1, not met, factor 2."
-abbrev factorTwo : Trial
+abbrev factorTwo : MarkedTrial
 factorTwo =
     record {
       case = oneTank 0 0 (pos 2) 1 (pos 4) 0 (pos 1 ∷ []);
@@ -105,7 +105,7 @@ factorTwo =
     }
 
 -- "A 2, b 1, E 5, f 0, trial 0: not met, none."
-abbrev zeroTrialGiven : Trial
+abbrev zeroTrialGiven : MarkedTrial
 zeroTrialGiven =
     record {
       case = oneTank 0 0 (pos 2) 5 (pos 1) 0 (pos 0 ∷ []);
@@ -115,7 +115,7 @@ zeroTrialGiven =
 -- ---- two tanks
 
 -- "Two tanks, rows (0, 1) and (1, 0), b 5 and 7, tolerances 0, K 1: Y 7, 5, met, row 1 decides."
-abbrev exchanged : Trial
+abbrev exchanged : MarkedTrial
 exchanged =
     record {
       case = twoTanks (pos 0 ∷ pos 1 ∷ pos 1 ∷ pos 0 ∷ []) (pos 5 ∷ pos 7 ∷ []);
@@ -123,7 +123,7 @@ exchanged =
     }
 
 -- "Rows (2, 1) and (1, 3), b 5 and 10, tolerances 0, K 1: Y 1, 3."
-abbrev multiplied : Trial
+abbrev multiplied : MarkedTrial
 multiplied =
     record {
       case = twoTanks (pos 2 ∷ pos 1 ∷ pos 1 ∷ pos 3 ∷ []) (pos 5 ∷ pos 10 ∷ []);
@@ -133,7 +133,7 @@ multiplied =
 -- ---- refusals
 
 -- "Rows (1, 1) and (1, 1), K 1: refusal 8."
-abbrev equalRows : Trial
+abbrev equalRows : MarkedTrial
 equalRows =
     record {
       case = twoTanks (pos 1 ∷ pos 1 ∷ pos 1 ∷ pos 1 ∷ []) (pos 0 ∷ pos 0 ∷ []);
@@ -141,10 +141,10 @@ equalRows =
     }
 
 -- "A 1, b 1,000,000,000, K 1: refusal 9."
-abbrev tooLarge : Trial
+abbrev tooLarge : MarkedTrial
 tooLarge = record { case = oneTank 0 1 (pos 1) 0 (pos 1000000000) 0 []; expected = refusal 9 }
 
-abbrev pub trials : List Trial
+abbrev pub trials : List MarkedTrial
 trials =
     printedTrial
     ∷ rightTolerance

@@ -10,7 +10,7 @@ use Rattle.casefile.specs.Decode.{decode}
 use Rattle.casefile.specs.StoredLaws.{Whole, reading-accepted, reading-refused}
 use Rattle.casefile.specs.declared.StoredCase.{StoredCase}
 use Rattle.ballast.specs.Bounds.{Workable, workable}
-use Rattle.ballast.specs.CallLaws.{answer-promised, refusal-read, trial-read, solved-read}
+use Rattle.ballast.specs.CallLaws.{answer-promised, same-answer, refusal-read, trial-read, solved-read}
 use Rattle.ballast.proofs.answer_case.Statement.{statement}
 use Rattle.ballast.proofs.answer_case.Tie as tie
 
@@ -35,7 +35,7 @@ returns : tie.Need-returns
 returns c =
     let r = c .before .before .before .before in
     answer-promised _ _
-    (c .refused .ensures
+    (same-answer _ _ (c .refused .ensures)
     ∙ refusal-read (decode (file r)) _ (reading-refused (decode (file r)) (r .read-case .result) (r .read-case .ensures) _ (c .before .before .status .given .1)))
 
 judge-requires : tie.Need-judge-requires
@@ -45,7 +45,7 @@ returns-2 : tie.Need-returns-2
 returns-2 c =
     let t = c .before .before .before .before .before .before .before .before .before in
     let d = t .before .before in
-    trial-read (decode (file (read d))) (case d) (whole d) _ (t .before .power-of-ten .ensures) _ _ (t .if1 .taken) (c .before .judge .ensures) (c .given-trial .ensures)
+    trial-read (decode (file (read d))) (case d) (whole d) _ (t .before .power-of-ten .ensures) _ _ (t .if1 .taken) (c .before .judge .ensures) (same-answer _ _ (c .given-trial .ensures))
 
 solve-requires : tie.Need-solve-requires
 solve-requires c κs =

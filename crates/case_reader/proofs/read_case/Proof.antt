@@ -8,7 +8,7 @@ use mathlib.Core.Path.{_≡_, sym, _∙_}
 use native.Mathlib.Omega.{arith}
 use Rattle.limits.specs.Limits.{mostTanks}
 use Rattle.outcome.specs.declared.Status.the-variants.{Accepted}
-use Rattle.fields.specs.AnswerLaws.{read-status}
+use Rattle.fields.specs.AnswerLaws.{read-status, read-made}
 use Rattle.casefile.specs.Decode.{afterHead, rowsStatus}
 use Rattle.casefile.specs.RowsLaws.{square-fits}
 use Rattle.case_reader.specs.Read.{HeadFound}
@@ -73,7 +73,7 @@ returns-4 c =
     let h = after-head r in
     let accepted = c .enum-told3 .given .1 in
     whole _ (head h) (head-found h) (head-fine h) (rows-fine r) (sym (read-status (t .read-tail .ensures)) ∙ accepted) _ _
-    (rows r .read-rows .ensures .made (r .enum-told2 .given .1)) (t .read-tail .ensures .made accepted)
+    (read-made (rows r .read-rows .ensures) (r .enum-told2 .given .1)) (read-made (t .read-tail .ensures) accepted)
 
 pub read-case-spec : {M : Type 1} → statement M
 read-case-spec =

@@ -12,7 +12,7 @@ use Rattle.outcome.specs.Laws.{first-goes-on}
 use Rattle.outcome.specs.Outcome.{statusNumber, check}
 use Rattle.outcome.specs.declared.Refusal.the-variants.{TrailingBytes}
 use Rattle.outcome.specs.declared.Status.the-variants.{Accepted}
-use Rattle.fields.specs.AnswerLaws.{read-status, answer-stops}
+use Rattle.fields.specs.AnswerLaws.{read-status, answer-stops, read-made}
 use Rattle.fields.specs.Due.{endStatus}
 use Rattle.fields.specs.Field.{endTag, endLength, endSize}
 use Rattle.fields.specs.FieldLaws.{Checked, checked}
@@ -69,7 +69,7 @@ returns-3 c =
     let e = rw (placed k .tail-places .ensures .end) at (c .check .ensures) in
     let ends : check (eqb (length (now (g .s)) - at) endSize) TrailingBytes ≡ endStatus (drop at (now (g .s))) =
     rw (← (length-drop at (now (g .s)))) (first-goes-on _ _ (sym (field k .is) ∙ c .before .before .enum-told4 .given .1)) in
-    rw (tail-is k) (record { number = e ∙ ap statusNumber ends; made = λ _. trial k .read-trial .ensures .made (told k .enum-told2 .given .1) })
+    rw (tail-is k) (record { number = e ∙ ap statusNumber ends; made = λ _. read-made (trial k .read-trial .ensures) (told k .enum-told2 .given .1) })
 
 pub read-tail-spec : {M : Type 1} → statement M
 read-tail-spec =

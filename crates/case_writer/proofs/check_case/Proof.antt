@@ -15,8 +15,8 @@ use Rattle.case_writer.proofs.check_case.Statement.{statement}
 use Rattle.case_writer.proofs.check_case.Tie as tie
 
 -- the case that is to be written
-abbrev case-of : tie.Start → Case
-case-of s =
+abbrev givenCase : tie.Start → Case
+givenCase s =
     let a = s .args in
     caseOfLists (a .n) (a .exponent) (a .rounds) (now (a .a)) (now (a .t)) (now (a .b)) (now (a .f)) (now (a .y))
 
@@ -39,7 +39,7 @@ returns-2 : tie.Need-returns-2
 unfolding caseStatus counted
 returns-2 c =
     let p = c .before .before in
-    let e : counted (case-of (start (p .before))) ≡ false = rw (← (p .tail-places .ensures .trial-count)) (not-true _ (c .if2 .taken)) in
+    let e : counted (givenCase (start (p .before))) ≡ false = rw (← (p .tail-places .ensures .trial-count)) (not-true _ (c .if2 .taken)) in
     rw (head-passed (p .before), e)
 
 returns-3 : tie.Need-returns-3
@@ -51,7 +51,7 @@ returns-3 c =
     let t = b .before in
     let a = t .before in
     let p = a .before .before .before in
-    let e : counted (case-of (start (p .before))) ≡ true = rw (← (p .tail-places .ensures .trial-count)) (not-false _ (a .before .if2 .left)) in
+    let e : counted (givenCase (start (p .before))) ≡ true = rw (← (p .tail-places .ensures .trial-count)) (not-false _ (a .before .if2 .left)) in
     let g = start (p .before) .args in
     let a-is : a .all-i16 .result ≡ allWithinLimit coefficientLimit (now (g .a)) = a .all-i16 .ensures in
     let t-is : t .all-u16 .result ≡ allUpToLimit toleranceLimit (now (g .t)) = t .all-u16 .ensures in

@@ -12,8 +12,8 @@ use Rattle.case_writer.proofs.write_case.Statement.{statement}
 use Rattle.case_writer.proofs.write_case.Tie as tie
 
 -- the case that is to be written
-abbrev case-of : tie.Start → Case
-case-of s =
+abbrev givenCase : tie.Start → Case
+givenCase s =
     let a = s .args in
     caseOfLists (a .n) (a .exponent) (a .rounds) (now (a .coefficients)) (now (a .tolerances)) (now (a .right-sides)) (now (a .right-tolerances)) (now (a .trial))
 
@@ -21,14 +21,14 @@ returns : tie.Need-returns
 unfolding write writeStatus
 returns c =
     let s = c .before .before .before .before in
-    written-short longestCase (caseStatus (case-of s)) (encode (case-of s)) (now (s .args .out)) (c .if1 .taken)
+    written-short longestCase (caseStatus (givenCase s)) (encode (givenCase s)) (now (s .args .out)) (c .if1 .taken)
 
 returns-2 : tie.Need-returns-2
 unfolding write writeStatus
 returns-2 c =
     let k = c .before .before .before in
     let s = k .before .before .before .before .before in
-    written-refused longestCase (caseStatus (case-of s)) (encode (case-of s)) (now (s .args .out)) _ (k .before .if1 .left) (sym (same-status _ _ (k .check-case .ensures)) ∙ c .before .status .given .1)
+    written-refused longestCase (caseStatus (givenCase s)) (encode (givenCase s)) (now (s .args .out)) _ (k .before .if1 .left) (sym (same-status _ _ (k .check-case .ensures)) ∙ c .before .status .given .1)
 
 write-fields-requires : tie.Need-write-fields-requires
 write-fields-requires c κs =
@@ -41,7 +41,7 @@ returns-3 c =
     let w = c .before .before in
     let k = w .before .before .before .before in
     let s = k .before .before .before .before .before in
-    written-whole longestCase (caseStatus (case-of s)) (encode (case-of s)) (now (s .args .out)) (k .before .if1 .left)
+    written-whole longestCase (caseStatus (givenCase s)) (encode (givenCase s)) (now (s .args .out)) (k .before .if1 .left)
     (sym (same-status _ _ (k .check-case .ensures)) ∙ w .before .before .enum-told .given .1) (w .write-fields .ensures)
 
 pub write-case-spec : {M : Type 1} → statement M

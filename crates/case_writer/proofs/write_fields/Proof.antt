@@ -38,14 +38,14 @@ module _ (h : tie.After-write-header) where
   abbrev start : tie.Start
   start = h .before .before .before .before .before
 
-  abbrev head-stored : List ℕ
-  head-stored = let g = start .args in sets (h .write-header .last .1 .1 .0) headerSize (headValue (g .n) (g .exponent) (g .rounds))
+  abbrev headStored : List ℕ
+  headStored = let g = start .args in sets (h .write-header .last .1 .1 .0) headerSize (headValue (g .n) (g .exponent) (g .rounds))
 
   head-room : let g = start .args in
       HeadSmall (g .n) (g .exponent) (g .rounds)
       × (longestCase ≤ length (now (g .out)))
       × (length (h .write-header .last .1 .1 .0) ≡ length (now (g .out)))
-      × (length head-stored ≡ length (now (g .out)))
+      × (length headStored ≡ length (now (g .out)))
   head-room = (fine start .limits, start .pre .0, h .write-header .kept .1 .1 .0, simp length-set (omega (arith, h .write-header .kept)))
 
 write-rows-requires : tie.Need-write-rows-requires
@@ -69,7 +69,7 @@ module _ (p : tie.After-tail-places) where
       TailPlaced (g .rounds) (g .n) (p .tail-places .result)
       × (endAt (g .rounds) (g .n) + endSize ≤ longestCase)
       × (longestCase ≤ length (now (g .out)))
-      × (length (put (head-stored header) rowsAt (rows .write-rows .last .1 .1 .1 .1 .1 .0)) ≡ length (now (g .out)))
+      × (length (put (headStored header) rowsAt (rows .write-rows .last .1 .1 .1 .1 .1 .0)) ≡ length (now (g .out)))
   placed = (p .tail-places .ensures, size begun, begun .pre .0, omega (arith, head-room header, rows .write-rows .kept))
 
 write-trial-requires : tie.Need-write-trial-requires

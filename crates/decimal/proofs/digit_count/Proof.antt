@@ -17,16 +17,10 @@ Inv-loop x rest₀ count₀ rest count = count + length (decimalDigits rest) ≡
 abbrev μ-loop : tie.MeasureT-loop
 μ-loop x rest₀ count₀ rest count = rest
 
-loop-holds : tie.Need-loop-holds Inv-loop μ-loop
-loop-holds c = omega arith
-
 add-count : tie.Need-add-count Inv-loop μ-loop
 add-count c =
     let s = c .before .before in
     omega (arith, length-digits 19 (s .args .x) (lt-of-lt-of-le (s .fits .x .fits) (lit≤ tt)), c .before .loop .inv)
-
-loop-less : tie.Need-loop-less Inv-loop μ-loop
-loop-less c = omega arith
 
 loop-again : tie.Need-loop-again Inv-loop μ-loop
 loop-again c = omega (arith, length-digits-more (c .before .loop .rest) (omega arith), c .before .loop .inv)
@@ -39,4 +33,4 @@ returns c =
 
 pub digit-count-spec : {M : Type 1} → statement M
 digit-count-spec =
-    tie.close (tie.spec Inv-loop μ-loop loop-holds add-count loop-less loop-again returns)
+    tie.close (tie.spec Inv-loop μ-loop (λ c. omega arith) add-count (λ c. omega arith) loop-again returns)

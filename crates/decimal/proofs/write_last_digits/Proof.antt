@@ -14,7 +14,7 @@ use Rattle.decimal.proofs.write_last_digits.Tie as tie
 
 record Filling (x count at : ℕ) (out₀ out : List ℕ) (rest left : ℕ) : Type 0 where
   room : at + count ≤ length out₀
-  within : left ≤ count
+  few : left ≤ count
   same : length out ≡ length out₀
   is : ontoAt at (lastDigits left rest) out ≡ ontoAt at (lastDigits count x) out₀
 
@@ -25,12 +25,12 @@ module _ {x count at : ℕ} {out₀ out : List ℕ} where
       let d : ℕ = digit (rest % 10) in
       let a : List ℕ = lastDigits k (rest / 10) in
       let l : at + length a ≡ at + k = ap (λ (m : ℕ). at + m) (length-last-digits k (rest / 10)) in
-      let e = onto-at-before at (at + k) a (d ∷ []) out l (omega (arith, c .room, c .within, c .same)) in
+      let e = onto-at-before at (at + k) a (d ∷ []) out l (omega (arith, c .room, c .few, c .same)) in
       record {
         room = c .room;
-        within = omega (arith, c .within);
+        few = omega (arith, c .few);
         same = length-set out (at + k) d ∙ c .same;
-        is = rw (set-onto-at (at + k) d out (omega (arith, c .room, c .within, c .same))) (e ∙ c .is);
+        is = rw (set-onto-at (at + k) d out (omega (arith, c .room, c .few, c .same))) (e ∙ c .is);
       }
 
   ended : (rest : ℕ) → Filling x count at out₀ out rest 0 → Wrote (lastDigits count x) at out₀ (at + count) out
@@ -48,7 +48,7 @@ loop-holds : tie.Need-loop-holds Inv-loop μ-loop
 loop-holds c =
     record {
       room = omega (arith, length-last-digits (c .args .count) (c .args .x), c .pre .room);
-      within = omega arith;
+      few = omega arith;
       same = refl;
       is = refl;
     }

@@ -54,9 +54,9 @@ made-last {n} {k} {a} {w} {places} m h o l =
     made-more {p = k} m h l (omega (arith, b .low, b .high)) (sym (last-step _ k n o ∙ exchange-same [] w k)) (sym (exchange-same 0 places k))
 
 -- what is left when the steps are over
-leaves : {n : ℕ} {a : List ℤ} {r : Run} {answer : Elimination} → eliminated n a ≡ r → answer ≡ outcome n (r .steps)
+eliminates : {n : ℕ} {a : List ℤ} {r : Run} {answer : Elimination} → eliminated n a ≡ r → answer ≡ outcome n (r .steps)
     → Eliminates n a answer (r .working) (r .order)
-leaves e p = record { refusal-is = rw (e, p); step-is = rw (e, p); working-is = rw e; order-is = rw e }
+eliminates e p = record { refusal-is = rw (e, p); step-is = rw (e, p); working-is = rw e; order-is = rw e }
 
 -- one candidate more, which is larger or not
 module _ {w : List (List ℤ)} {k n pivot size i next : ℕ} (s : Searched w k n pivot size i) (h : i < n) (e : next ≡ natAbs (at w i k)) where
@@ -154,7 +154,7 @@ module _ (c : tie.Else2 Inv-rows μ-rows Inv-steps μ-steps) where
   ready =
       let s = head .before .before .before .before .before in
       let f = head .before .before .fill-rows .ensures in
-      let b = rw (f .are) at (f .within) in
+      let b = rw (f .are) at (f .in-bound) in
       kept-pivoted n′ (state w′ places′ k′) (s .pre) (omega arith)
       (rw (head .steps .inv .is) at (kept n′ (s .args .coefficients .now) (s .pre) b k′ (omega arith)))
       nonzero
@@ -193,10 +193,10 @@ module _ (c : tie.Left-steps Inv-rows μ-rows Inv-steps μ-steps) where
       (c .steps-test .came)
 
 returns : tie.Need-returns Inv-rows μ-rows Inv-steps μ-steps
-returns c = leaves (whole (c .before)) (sym (steps-zero-pivot _ _ (c .if5 .taken)))
+returns c = eliminates (whole (c .before)) (sym (steps-zero-pivot _ _ (c .if5 .taken)))
 
 returns-2 : tie.Need-returns-2 Inv-rows μ-rows Inv-steps μ-steps
-returns-2 c = leaves (whole (c .before)) (sym (steps-complete _ _ (c .if5 .left)))
+returns-2 c = eliminates (whole (c .before)) (sym (steps-complete _ _ (c .if5 .left)))
 
 pub eliminate-spec : {M : Type 1} → statement M
 eliminate-spec =

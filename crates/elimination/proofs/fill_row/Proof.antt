@@ -89,7 +89,7 @@ returns c =
     let e : d .loop .j - 0 ≡ s .n = omega arith in
     record {
       is = d .loop .inv .2 ∙ ap (λ (m : ℕ). fill (scaledCoefficient (s .n) (s .coefficients .now) (s .i)) 0 m zeroRow) e;
-      within = d .loop .inv .1;
+      in-bound = d .loop .inv .1;
     }
 
 pub fill-row-spec : {M : Type 1} → statement M

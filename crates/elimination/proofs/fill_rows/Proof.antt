@@ -45,7 +45,7 @@ loop-again c =
     let s = d .before .args in
     let i = d .loop .i in (
       omega arith,
-      all-set-at (λ _. Within (bound 0)) [] (d .loop .w) i _ (c .fill-row .ensures .within) (d .loop .inv .1),
+      all-set-at (λ _. Within (bound 0)) [] (d .loop .w) i _ (c .fill-row .ensures .in-bound) (d .loop .inv .1),
       rw (c .fill-row .ensures .is)
           (ap (λ (l : List (List ℤ)). set l i (workingRow (s .n) (s .coefficients .now) i)) (d .loop .inv .2)
           ∙ fill-next (workingRow (s .n) (s .coefficients .now)) 0 i zeroRows (omega arith)),
@@ -59,7 +59,7 @@ returns c =
     let e : d .loop .i - 0 ≡ s .n = omega arith in
     record {
       are = d .loop .inv .2 ∙ ap (λ (m : ℕ). fill (workingRow (s .n) (s .coefficients .now)) 0 m zeroRows) e;
-      within = d .loop .inv .1;
+      in-bound = d .loop .inv .1;
     }
 
 pub fill-rows-spec : {M : Type 1} → statement M

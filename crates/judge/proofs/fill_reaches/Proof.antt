@@ -13,12 +13,12 @@ use Rattle.judge.proofs.fill_reaches.Statement.{statement}
 use Rattle.judge.proofs.fill_reaches.Tie as tie
 
 -- the reach of each row
-abbrev reach-at : ℕ → ℕ → List ℕ → List ℕ → List ℤ → ℕ → ℕ
-reach-at n D E f Y k = reach (row (system n [] E [] f) k) (trialOf n D Y)
+abbrev reachAt : ℕ → ℕ → List ℕ → List ℕ → List ℤ → ℕ → ℕ
+reachAt n D E f Y k = reach (row (system n [] E [] f) k) (trialOf n D Y)
 
 abbrev Inv-loop : tie.InvT-loop
 Inv-loop n scale tolerances right-tolerances trial reaches₀ i₀ reaches i =
-    Filling (reach-at n scale tolerances right-tolerances trial) 0 n reaches i
+    Filling (reachAt n scale tolerances right-tolerances trial) 0 n reaches i
 
 abbrev μ-loop : tie.MeasureT-loop
 μ-loop n scale tolerances right-tolerances trial reaches₀ i₀ reaches i = n - i

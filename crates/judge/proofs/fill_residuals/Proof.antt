@@ -18,12 +18,12 @@ use Rattle.judge.proofs.fill_residuals.Statement.{statement}
 use Rattle.judge.proofs.fill_residuals.Tie as tie
 
 -- the residual of each row
-abbrev residual-at : ℕ → ℕ → List ℤ → List ℤ → List ℤ → ℕ → ℤ
-residual-at n D A b Y k = residual (row (system n A [] b []) k) (trialOf n D Y)
+abbrev residualAt : ℕ → ℕ → List ℤ → List ℤ → List ℤ → ℕ → ℤ
+residualAt n D A b Y k = residual (row (system n A [] b []) k) (trialOf n D Y)
 
 abbrev Inv-loop : tie.InvT-loop
 Inv-loop n scale coefficients right-sides trial residuals₀ i₀ residuals i =
-    Filling (residual-at n scale coefficients right-sides trial) (pos 0) n residuals i
+    Filling (residualAt n scale coefficients right-sides trial) (pos 0) n residuals i
 
 abbrev μ-loop : tie.MeasureT-loop
 μ-loop n scale coefficients right-sides trial residuals₀ i₀ residuals i = n - i
@@ -47,7 +47,7 @@ loop-again c =
     let g = l .before .before .args in
     let i = l .loop .i in
     let f : SFits w32 (getD (g .right-sides .now) i (pos 0)) = record { sfits = c .before .row-residual-arg .given } in
-    let r = residual-at (g .n) (g .scale) (g .coefficients .now) (g .right-sides .now) (g .trial .now) in
+    let r = residualAt (g .n) (g .scale) (g .coefficients .now) (g .right-sides .now) (g .trial .now) in
     let e : c .row-residual .result ≡ r i = simp toZ-ofZ at (c .row-residual .ensures) in
     let o : SFits w64 (c .row-residual .result) = record { sfits = c .row-residual .ok } in
     filling-turn (l .loop .inv) (l .before .before .pre) (c .before .before .loop-test .taken) (toZ-ofZ o ∙ e)

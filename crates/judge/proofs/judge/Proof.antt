@@ -1,4 +1,4 @@
--- `judge::judge` meets its contract: what the trial leaves of each row is its standing, and the judgement is concluded from that. Assumes nothing.
+-- `judge::judge` meets its contract: what the trial leaves of each row is its measurement, and the judgement is concluded from that. Assumes nothing.
 use borrow.Author.Needs.{needs}
 use mathlib.Core.Path.{ap, _∙_}
 use Rattle.judge.specs.Judgement.{judgement, concluded}

@@ -12,7 +12,7 @@ use Rattle.elimination.specs.Steps.{Run, eliminated}
 use Rattle.elimination.specs.declared.Elimination.the-variants as E
 use Rattle.solver.specs.Answers.{refined-measured}
 use Rattle.solver.specs.Limits.{Measured, Startable}
-use Rattle.solver.specs.Outcomes.{start-measured, startable, solution-answered, solution-refused, solution-promised}
+use Rattle.solver.specs.Outcomes.{start-measured, startable, solution-answered, solution-refused, solution-promised, same-solution}
 use Rattle.solver.specs.Refinement.{start}
 use Rattle.solver.proofs.solve.Statement.{statement}
 use Rattle.solver.proofs.solve.Tie as tie
@@ -57,7 +57,7 @@ returns c =
     let d = c .before .before .before in
     let b = begun d in
     solution-promised _ _
-    (c .kept .ensures (s′ b) (D′ b) refl (first-measured d)
+    (same-solution _ _ (c .kept .ensures (s′ b) (D′ b) refl (first-measured d))
     ∙ solution-refused (s′ b) (D′ b) (b .args .rounds) (c .before .enum-told .given .0 .0) (d .start .result) (first-is d)
     (sym (answer-is (d .before .eliminate .ensures)) ∙ c .before .enum-told .given .1))
 
@@ -68,7 +68,7 @@ returns-2 c =
     let r = c .before .refine in
     let m = refined-measured (working′ d) (order′ d) (s′ b) (D′ b) (b .args .rounds) (d .start .result) (r .result) (first-measured d) (r .ensures) in
     solution-promised _ _
-    (c .answered .ensures (s′ b) (D′ b) refl m
+    (same-solution _ _ (c .answered .ensures (s′ b) (D′ b) refl m)
     ∙ solution-answered (s′ b) (D′ b) (working′ d) (order′ d) (d .start .result) (d .before .eliminate .ensures .working-is) (d .before .eliminate .ensures .order-is) (first-is d)
     (b .args .rounds) (r .result) (r .ensures)
     (sym (answer-is (d .before .eliminate .ensures)) ∙ c .before .before .before .before .enum-told2 .given .1))
