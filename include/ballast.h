@@ -31,8 +31,7 @@ extern "C" {
 #define BALLAST_CASE_ROOM 388   /* the longest case, and the shortest buffer for one */
 #define BALLAST_TEXT_ROOM 800   /* no printed verdict is longer, and the shortest buffer for one */
 
-/* Measured and not proved: examples/run calls each function on a painted stack and finds 4,808 bytes changed at most, as many as the compiled frames
- * come to where a comparison of factors goes deepest. Where memcpy and memset are bound at their first call, what the loader needs for that comes
+/* Measured and not proved: examples/run calls each function on a painted stack and finds 4,120 bytes changed at most. Where memcpy and memset are bound at their first call, what the loader needs for that comes
  * on top. */
 #define BALLAST_STACK_NEED 8192
 

@@ -14,9 +14,11 @@ use Rattle.solver.specs.Limits.{scaleLimit, Limits, Ranges}
 use Rattle.solver.specs.Sizes.{limits-enough}
 use Rattle.casefile.specs.Case.{Case}
 use Rattle.casefile.specs.CaseLaws.{Good, decode-good}
-use Rattle.casefile.specs.Decode.{decode, stored}
-use Rattle.casefile.specs.StoredLaws.{Whole, getD-padded, padded-within}
-use Rattle.casefile.specs.declared.StoredCase.{StoredCase}
+use Rattle.casefile.specs.Decode.{decode}
+use Rattle.casefile.specs.StoredLaws.{getD-padded, padded-within}
+use Rattle.case_reader.specs.Read.{CaseLists}
+use Rattle.case_reader.specs.ReadLaws.{CaseHeld}
+use Rattle.case_reader.specs.declared.CaseHead.{CaseHead}
 use Rattle.ballast.specs.Call.{scaleOf, systemOf}
 
 scale-le : (e : ℕ) → e ≤ mostExponent → scaleOf e ≤ scaleLimit
@@ -55,14 +57,13 @@ module _ (c : Case) (g : Good c) where
             y i,
       )
 
--- ---- a case as the program holds it, once it was read
+-- ---- a case that was read
 
 pub record Workable (n exponent : ℕ) : Type 0 where
   pub exponent-small : exponent ≤ mostExponent
   pub limits : Limits n (scaleOf exponent)
 
-pub workable : (input : List ℕ) (k : StoredCase) → Whole (decode input) k → Workable (k .n) (k .exponent)
-unfolding stored
-workable input k w =
+pub workable : (input : List ℕ) {before : CaseLists} {r : CaseHead} {after : CaseLists} → CaseHeld (decode input) before r after → Workable (r .n) (r .exponent)
+workable input w =
     let g = decode-good input (w .figures) (w .decoded) in
-    rw (w .held) (record { exponent-small = g .limits .exponent-small; limits = limits (w .figures) g })
+    rw (w .head) (record { exponent-small = g .limits .exponent-small; limits = limits (w .figures) g })

@@ -7,17 +7,16 @@ use mathlib.Core.Bool.{false}
 use mathlib.Core.List.{List}
 use mathlib.Core.Path.{_≡_}
 use Rattle.limits.specs.Limits.{mostTanks}
+use Rattle.judge.specs.Judgement.{measurementFrom}
 use Rattle.judge.specs.System.{System}
-use Rattle.judge.specs.declared.Judgement.{Judgement}
-use Rattle.solver.specs.Solution.{judgedTrial, solution, SolutionIs}
-use Rattle.solver.specs.declared.Solution.{Solution}
+use Rattle.solver.specs.Refinement.{Progress}
+use Rattle.solver.specs.Solution.{Solution, solutionFrom, judgedTrial, refusedSolution, solution, SolutionIs}
 use Rattle.outcome.specs.CallResult.{CallResult, writeIfAccepted, checkRoom}
 use Rattle.outcome.specs.declared.Refusal.{Refusal}
-use Rattle.outcome.specs.declared.Status.the-variants.{Accepted, Refused}
 use Rattle.casefile.specs.Case.{Case, whereTrialGiven}
 use Rattle.casefile.specs.Decode.{Decoded, accepted, refused, decode, padded}
 use Rattle.recordfile.specs.Layout.{recordOf, longestRecord}
-use Rattle.ballast.specs.declared.Answer.{Answer}
+use Rattle.ballast.specs.declared.Answered.{Answered}
 
 -- "D is 10 to the power e"
 abbrev pub scaleOf : ℕ → ℕ
@@ -27,18 +26,26 @@ scaleOf e = 10 ^ e
 abbrev pub systemOf : Case → System
 systemOf c = record { n = c .n; rows = c .rows }
 
--- "0 means that the case brings its trial", with no round used
-abbrev pub trialSolution : Case → Solution
-trialSolution c = judgedTrial (systemOf c) (scaleOf (c .exponent)) Accepted 0 (c .Y)
+-- "that answer is the trial brought or, for K above 0, the one kept from the steps": of one condition, with the rows s, the scale D, K = k and the
+-- trial Y. "0 means that the case brings its trial", with no round used
+abbrev pub conditionSolution : System → ℕ → ℕ → List ℤ → Solution
+conditionSolution s D k Y = whereTrialGiven k (judgedTrial s D 0 Y) (solution s D k)
 
--- "that answer is the trial brought or, for K above 0, the one kept from the steps"
-abbrev pub caseSolutionWith : ℕ → Case → Solution
-caseSolutionWith k c = whereTrialGiven k (trialSolution c) (solution (systemOf c) (scaleOf (c .exponent)) k)
-
+-- a case has one condition
 unfoldable pub caseSolution : Case → Solution
-caseSolution c = caseSolutionWith (c .rounds) c
+caseSolution c = conditionSolution (systemOf c) (scaleOf (c .exponent)) (c .rounds) (c .Y)
 
 -- ---- the answer of a file, with no record written
+
+-- what a file's case comes to: its answer with the rounds used and its judgement, or the refusal
+pub record Answer : Type 0 where
+  pub n : ℕ
+  pub exponent : ℕ
+  pub solution : Solution
+
+-- by what is returned, and the trial, the residuals and the reaches that are lent
+abbrev pub answerFrom : Answered → List ℤ → List ℤ → List ℕ → Answer
+answerFrom r Y R T = record { n = r .n; exponent = r .exponent; solution = solutionFrom (r .kept) Y R T }
 
 -- the answer in the places that are there for any case: zeros stand behind a trial that is brought
 abbrev pub inPlaces : Solution → Solution
@@ -48,24 +55,18 @@ inPlaces a =
 abbrev pub answerWith : ℕ → ℕ → Solution → Answer
 answerWith n exponent a = record { n = n; exponent = exponent; solution = a }
 
-abbrev pub trialAnswer : ℕ → ℕ → List ℤ → Judgement → Answer
-trialAnswer n exponent Y j = answerWith n exponent (record { status = Accepted; rounds = 0; trial = Y; judgement = j })
-
 -- beside a refusal of the reading all figures are zero
-abbrev pub noJudgement : Judgement
-noJudgement =
+abbrev pub noProgress : Progress
+noProgress =
     record {
-      met = false;
-      unmet = 0;
-      none = false;
-      decides = 0;
-      residuals = replicate mostTanks (pos 0);
-      reaches = replicate mostTanks 0;
+      within = false;
+      rounds = 0;
+      trial = replicate mostTanks (pos 0);
+      measurement = measurementFrom 0 (replicate mostTanks (pos 0)) (replicate mostTanks 0);
     }
 
 abbrev pub noAnswer : Refusal → Answer
-noAnswer r =
-    answerWith 0 0 (record { status = Refused r; rounds = 0; trial = replicate mostTanks (pos 0); judgement = noJudgement })
+noAnswer r = answerWith 0 0 (refusedSolution r noProgress)
 
 -- refusals 8 and 9 "come only when the whole case has been read"
 unfoldable pub answerOf : Decoded → Answer

@@ -1,39 +1,38 @@
 -- The answer's definition, case by case, as the code meets it. Assumes nothing.
-use Prim.Native.Nat.{ℕ}
+use Prim.Native.Nat.{ℕ, zero, suc}
 use lib.IntN.{ℤ, pos}
 use lib.ListN.{length, drop, replicate}
 use mathlib.Core.List.{List, [], _++_, append-nil}
 use mathlib.Core.Path.{_≡_, refl, sym, ap, _∙_}
 use Rattle.limits.specs.Limits.{mostTanks, mostCoefficients}
-use Rattle.judge.specs.Judgement.{judgement}
+use Rattle.rows.specs.Block.{over}
+use Rattle.judge.specs.Judgement.{Judgement, judgement}
 use Rattle.judge.specs.SameFigures.{SameFigures, same-judgement}
 use Rattle.judge.specs.System.{System, trial}
-use Rattle.judge.specs.declared.Judgement.{Judgement}
 use Rattle.solver.specs.Answers.{trial-places}
 use Rattle.solver.specs.Outcomes.{solution-promised, same-solution}
 use Rattle.solver.specs.SameFigures.{solution-same-figures}
-use Rattle.solver.specs.Solution.{solution, SolutionIs}
-use Rattle.solver.specs.declared.Solution.{Solution}
+use Rattle.solver.specs.Solution.{Solution, solution, SolutionIs}
 use Rattle.outcome.specs.Laws.{not-both}
 use Rattle.outcome.specs.declared.Refusal.{Refusal}
 use Rattle.outcome.specs.declared.Status.the-variants.{Accepted, Refused}
 use Rattle.casefile.specs.Case.{Case}
-use Rattle.casefile.specs.Decode.{Decoded, accepted, refused, padded, heldRows, stored}
-use Rattle.casefile.specs.StoredLaws.{Whole, getD-padded}
-use Rattle.casefile.specs.TailLaws.{no-trial-given}
-use Rattle.casefile.specs.declared.StoredCase.{StoredCase}
-use Rattle.ballast.specs.Call.{scaleOf, systemOf, caseSolution, inPlaces, answerWith, trialAnswer, noAnswer, answerOf, AnswerIs}
-use Rattle.ballast.specs.declared.Answer.{Answer}
+use Rattle.casefile.specs.Decode.{Decoded, accepted, refused, padded, places}
+use Rattle.casefile.specs.StoredLaws.{getD-padded}
+use Rattle.case_reader.specs.Read.{CaseLists, zeroLists, listsRead, CaseReadInto}
+use Rattle.case_reader.specs.ReadLaws.{CaseHeld}
+use Rattle.case_reader.specs.declared.CaseHead.{CaseHead}
+use Rattle.ballast.specs.Call.{Answer, scaleOf, systemOf, conditionSolution, caseSolution, inPlaces, answerWith, answerFrom, noAnswer, answerOf, AnswerIs}
+use Rattle.ballast.specs.declared.Answered.{Answered}
 
 -- ---- zeros behind a case's figures change nothing
 
--- the rows as the program holds them
-abbrev pub heldSystem : StoredCase → System
-heldSystem k = record { n = k .n; rows = heldRows k }
+-- the rows as they stand in lists that were read into
+abbrev pub heldSystem : CaseHead → CaseLists → System
+heldSystem r lists = record { n = r .n; rows = lists .rows }
 
-stored-figures : (c : Case) → SameFigures (heldRows (stored c)) (c .rows)
-unfolding stored
-stored-figures c =
+held-figures : (c : Case) → SameFigures (over (c .rows) places) (c .rows)
+held-figures c =
     record {
       A = getD-padded (pos 0) mostCoefficients (c .rows .A);
       E = getD-padded 0 mostCoefficients (c .rows .E);
@@ -55,24 +54,20 @@ in-places-full a e =
 
 -- ---- what was worked out
 
-module _ (c : Case) (d : ℕ) (s : d ≡ scaleOf (c .exponent)) where
-  solution-of-trial : (j : Judgement) → c .rounds ≡ 0 → j ≡ judgement (heldSystem (stored c)) (trial (c .n) d (stored c .trial))
-      → record { status = Accepted; rounds = 0; trial = stored c .trial; judgement = j } ≡ inPlaces (caseSolution c)
-  unfolding caseSolution stored
-  solution-of-trial j k e =
-      let q : j ≡ judgement (systemOf c) (trial (c .n) (scaleOf (c .exponent)) (c .Y)) =
-      (rw s at e)
-      ∙ same-judgement (c .n) (heldRows (stored c)) (c .rows) (stored-figures c) _
-      ∙ ap (judgement (systemOf c)) (trial-padded (c .n) (scaleOf (c .exponent)) (c .Y)) in
-      rw (k, q)
+-- with no round allowed, the trial brought and its judgement
+pub trial-solution : (s : System) (D k : ℕ) (Y : List ℤ) (j : Judgement) → k ≡ 0 → j ≡ judgement s (trial (s .n) D Y)
+    → record { status = Accepted; rounds = 0; trial = Y; judgement = j } ≡ conditionSolution s D k Y
+trial-solution s D k Y j e h = rw (e, h)
 
-  solution-of-steps : (a : Solution) → (c .rounds ≡ 0 → ⊥) → a ≡ solution (heldSystem (stored c)) d (c .rounds) → a ≡ inPlaces (caseSolution c)
-  unfolding caseSolution stored
-  solution-of-steps a k e =
-      (rw s at e)
-      ∙ solution-same-figures (c .n) (heldRows (stored c)) (c .rows) (stored-figures c) (scaleOf (c .exponent)) (c .rounds)
-      ∙ sym (in-places-full _ (trial-places (systemOf c) (scaleOf (c .exponent)) (c .rounds)))
-      ∙ ap inPlaces (sym (no-trial-given (c .rounds) _ _ k))
+-- of the rows and the trial with zeros behind them: the case's own, in its places
+condition-held : (c : Case) (D k : ℕ)
+    → conditionSolution (record { n = c .n; rows = over (c .rows) places }) D k (padded mostTanks (pos 0) (c .Y)) ≡ inPlaces (conditionSolution (systemOf c) D k (c .Y))
+condition-held c D zero =
+    ap (λ (j : Judgement). record { status = Accepted; rounds = 0; trial = padded mostTanks (pos 0) (c .Y); judgement = j })
+    (same-judgement (c .n) (over (c .rows) places) (c .rows) (held-figures c) _ ∙ ap (judgement (systemOf c)) (trial-padded (c .n) D (c .Y)))
+condition-held c D (suc k) =
+    solution-same-figures (c .n) (over (c .rows) places) (c .rows) (held-figures c) D (suc k)
+    ∙ sym (in-places-full _ (trial-places (systemOf c) D (suc k)))
 
 -- ---- the answer of a file
 
@@ -99,31 +94,22 @@ module _ (r x : Answer) where
   same-answer h =
       λ i. record { n = h .n i; exponent = h .exponent i; solution = same-solution (r .solution) (x .solution) (h .solution) i }
 
--- the case k that was read of d, and what was worked out over it
-module _ (d : Decoded) (k : StoredCase) (w : Whole d k) where
-  answer-read : (a : Solution) → a ≡ inPlaces (caseSolution (w .figures)) → answerWith (k .n) (k .exponent) a ≡ answerOf d
-  unfolding answerOf stored
-  answer-read a e = rw (e, w .held, w .decoded)
+-- the case that was read of d into lists of zeros, and what was worked out over them
+pub answer-read : (d : Decoded) {r : CaseHead} {lists : CaseLists} → CaseHeld d zeroLists r lists → (D : ℕ) → D ≡ scaleOf (r .exponent) → (a : Solution)
+    → SolutionIs a (conditionSolution (heldSystem r lists) D (r .rounds) (lists .Y)) → AnswerIs (answerWith (r .n) (r .exponent) a) (answerOf d)
+unfolding answerOf caseSolution
+answer-read d w D s a e =
+    let c = w .figures in
+    let q : D ≡ scaleOf (c .exponent) = rw (w .head) at s in
+    let h : a ≡ inPlaces (caseSolution c) = same-solution _ _ e ∙ rw (w .head, w .lists, q) (condition-held c (scaleOf (c .exponent)) (c .rounds)) in
+    answer-promised _ _ (rw (h, w .head, w .decoded))
 
-  module _ (D : ℕ) (s : D ≡ scaleOf (k .exponent)) where
-    scale-is : D ≡ scaleOf (w .figures .exponent)
-    unfolding stored
-    scale-is = rw (w .held) at s
+-- beside a refusal the trial's places are zero
+pub refused-trial : {d : Decoded} {before after : CaseLists} {r : CaseHead} (q : Refusal) → CaseReadInto d before r after → d ≡ refused q → after .Y ≡ replicate mostTanks (pos 0)
+refused-trial {before = before} q w e = ap (λ (l : CaseLists). l .Y) (w .lists ∙ ap (λ (x : Decoded). listsRead x before) e)
 
-    pub trial-read : (j : Judgement) (r : Answer) → k .rounds ≡ 0 → j ≡ judgement (heldSystem k) (trial (k .n) D (k .trial))
-        → r ≡ trialAnswer (k .n) (k .exponent) (k .trial) j → AnswerIs r (answerOf d)
-    unfolding stored
-    trial-read j r z e a =
-        answer-promised _ _
-        (a ∙ answer-read _ (rw (w .held) (solution-of-trial (w .figures) D scale-is j (rw (w .held) at z) (rw (w .held) at e))))
-
-    pub solved-read : (a : Solution) → (k .rounds ≡ 0 → ⊥) → SolutionIs a (solution (heldSystem k) D (k .rounds))
-        → AnswerIs (answerWith (k .n) (k .exponent) a) (answerOf d)
-    unfolding stored
-    solved-read a z e =
-        answer-promised _ _
-        (answer-read a (solution-of-steps (w .figures) D scale-is a (rw (w .held) at z) (rw (w .held) at (same-solution _ _ e))))
-
-pub refusal-read : (d : Decoded) (r : Refusal) → d ≡ refused r → noAnswer r ≡ answerOf d
+-- a refusal of the reading is the answer of the file
+pub refusal-read : (d : Decoded) (q : Refusal) → d ≡ refused q → (r : Answered) {Y R : List ℤ} {T : List ℕ} → Y ≡ replicate mostTanks (pos 0)
+    → AnswerIs (answerFrom r (replicate mostTanks (pos 0)) R T) (noAnswer q) → AnswerIs (answerFrom r Y R T) (answerOf d)
 unfolding answerOf
-refusal-read d r e = rw e
+refusal-read d q e r h s = rw (e, h) s

@@ -6,7 +6,8 @@ use lib.ListN.{getD, take}
 use mathlib.Core.List.{List}
 use mathlib.Core.Path.{_≡_}
 use Rattle.judge.specs.Finding.{Justified}
-use Rattle.judge.specs.System.{Trial}
+use Rattle.judge.specs.System.{System, Trial}
+use Rattle.solver.specs.Solution.{Solution}
 use Rattle.outcome.specs.CallResult.{callResult}
 use Rattle.outcome.specs.Outcome.{reportedOutcome}
 use Rattle.outcome.specs.declared.Outcome.{Outcome}
@@ -16,23 +17,23 @@ use Rattle.casefile.specs.Decode.{accepted, decode}
 use Rattle.recordfile.specs.ReadOff.{recordedRounds, recordedAnswer, recordedFinding}
 use Rattle.ballast.specs.Call.{scaleOf, systemOf, caseSolution, judgeResult}
 
--- the answer that a record's bytes hold, over the case's scale
-abbrev pub recorded : Case → List ℕ → Trial
-recorded c bytes = record { n = c .n; D = scaleOf (c .exponent); Y = recordedAnswer bytes }
+-- the answer that a condition's bytes hold, from the place where they begin, over the scale D
+abbrev pub recordedTrial : ℕ → ℕ → ℕ → List ℕ → Trial
+recordedTrial n D at bytes = record { n = n; D = D; Y = recordedAnswer at bytes }
 
--- a finished case and its record: the recorded answer and rounds are those of the trial brought or of the steps, and all that the bytes say
--- of that answer is justified: met, the changes they yield, the named row, the least factor, and none
-pub record Finished (c : Case) (bytes : List ℕ) : Type 0 where
-  pub answer : (j : ℕ) → j < c .n → recordedAnswer bytes j ≡ getD (caseSolution c .trial) j (pos 0)
-  pub rounds : recordedRounds bytes ≡ caseSolution c .rounds
-  pub justified : Justified (systemOf c) (recorded c bytes) (recordedFinding (c .n) bytes)
+-- a finished condition: its rows s, the scale D, the answer that was kept, and its bytes, which begin at a place. The recorded answer and rounds are those
+-- that were kept, and all that the bytes say of that answer is justified: met, the changes they yield, the named row, the least factor, and none
+pub record Finished (s : System) (D : ℕ) (kept : Solution) (at : ℕ) (bytes : List ℕ) : Type 0 where
+  pub answer : (j : ℕ) → j < s .n → recordedAnswer at bytes j ≡ getD (kept .trial) j (pos 0)
+  pub rounds : recordedRounds at bytes ≡ kept .rounds
+  pub justified : Justified s (recordedTrial (s .n) D at bytes) (recordedFinding (s .n) at bytes)
 
 -- "a case is finished when the call .. returns a count and no refusal, and its record is that many bytes, as the call left them at the
--- buffer's front"
+-- buffer's front": the case's one condition begins there, and its answer is the trial brought or that of the steps
 pub record Demand (input buffer : List ℕ) (m : ℕ) : Type 0 where
   pub case : Case
   pub read : decode input ≡ accepted case
-  pub finished : Finished case (take m buffer)
+  pub finished : Finished (systemOf case) (scaleOf (case .exponent)) (caseSolution case) 0 (take m buffer)
 
 abbrev pub Demanded : List ℕ → Outcome → List ℕ → Type 0
 Demanded input outcome buffer = (m : ℕ) → reportedOutcome outcome ≡ reportedOutcome (Count m) → Demand input buffer m

@@ -12,14 +12,14 @@ use Rattle.limits.specs.Limits.{mostTanks, mostRounds}
 use Rattle.integers.specs.Size.{sfits-size}
 use Rattle.judge.specs.Agreement.{judgement-agrees, agrees-with}
 use Rattle.judge.specs.Finding.{Justified, Agrees}
-use Rattle.judge.specs.Judgement.{judgement}
+use Rattle.judge.specs.Judgement.{Judgement, judgement}
 use Rattle.judge.specs.Laws.{unmet-le, deciding-below}
 use Rattle.judge.specs.System.{System, Trial, row, trial, residual, reach}
 use Rattle.judge.specs.Theorem.{justified}
 use Rattle.solver.specs.Answers.{answer, rounds}
 use Rattle.solver.specs.Claims.{KeptAnswer}
 use Rattle.solver.specs.Sizes.{residual-le}
-use Rattle.solver.specs.declared.Solution.{Solution}
+use Rattle.solver.specs.Solution.{Solution}
 use Rattle.outcome.specs.CallResult.{checkRoom, callResult}
 use Rattle.outcome.specs.CallResultLaws.{WrittenCount, written-count}
 use Rattle.outcome.specs.Laws.{first-right}
@@ -34,18 +34,17 @@ use Rattle.casefile.specs.StoredLaws.{getD-padded}
 use Rattle.recordfile.specs.Laws.{length-record, longest-record}
 use Rattle.recordfile.specs.Layout.{recordOf, longestRecord, RecordFits}
 use Rattle.recordfile.specs.ReadOff.{recordedAnswer, recordedFinding}
-use Rattle.recordfile.specs.ReadOffLaws.{recorded-met, recorded-unmet, recorded-rounds, recorded-answer, recorded-residual, recorded-reach, recorded-none, recorded-decides}
+use Rattle.recordfile.specs.ReadOffLaws.{HoldsCondition, record-holds, recorded-met, recorded-unmet, recorded-rounds, recorded-answer, recorded-residual, recorded-reach, recorded-none, recorded-decides}
 use Rattle.ballast.specs.Bounds.{limits, ranges, trial-figures, reach-le}
-use Rattle.ballast.specs.Call.{scaleOf, systemOf, caseSolutionWith, caseSolution, inPlaces, answerOf, answerRecord, recordResult, judgeResult}
+use Rattle.ballast.specs.Call.{Answer as FileAnswer, scaleOf, systemOf, conditionSolution, caseSolution, inPlaces, answerOf, answerRecord, recordResult, judgeResult}
 use Rattle.ballast.specs.CallLaws.{trial-padded, Answering, answering}
-use Rattle.ballast.specs.Demand.{Finished, Demand, Promise}
-use Rattle.ballast.specs.declared.Answer.{Answer as FileAnswer}
+use Rattle.ballast.specs.Demand.{recordedTrial, Finished, Demand, Promise}
 
--- ---- the answer, brought or worked out: within its limits, and beside its own judgement
+-- ---- the answer, brought or worked out: within its limits, and where it is accepted beside its own judgement
 
 module _ (c : Case) (g : Good c) where
-  solution-with-answer : (k : ℕ) → KeptAnswer (systemOf c) (scaleOf (c .exponent)) (caseSolutionWith k c)
-  solution-with-answer zero = record { figures = trial-figures c g; judgement-is = refl }
+  solution-with-answer : (k : ℕ) → KeptAnswer (systemOf c) (scaleOf (c .exponent)) (conditionSolution (systemOf c) (scaleOf (c .exponent)) k (c .Y))
+  solution-with-answer zero = record { figures = trial-figures c g; judgement-is = λ _. refl }
   solution-with-answer (suc k) = answer (systemOf c) (scaleOf (c .exponent)) (suc k)
 
   solution-answer : KeptAnswer (systemOf c) (scaleOf (c .exponent)) (caseSolution c)
@@ -57,43 +56,51 @@ module _ (c : Case) (g : Good c) where
   placed-answer =
       record {
         figures = λ i. rw (getD-padded (pos 0) mostTanks (caseSolution c .trial) i) (solution-answer .figures i);
-        judgement-is = solution-answer .judgement-is ∙ ap (judgement (systemOf c)) (sym (trial-padded (c .n) (scaleOf (c .exponent)) (caseSolution c .trial)));
+        judgement-is = λ e. solution-answer .judgement-is e ∙ ap (judgement (systemOf c)) (sym (trial-padded (c .n) (scaleOf (c .exponent)) (caseSolution c .trial)));
       }
 
--- ---- what is read off a record of n rows
+-- ---- what is read off the bytes of a condition
 
+-- the fields of an answer Y over the rows s, with the rounds used, from a place on; what stands behind them plays no part
 module _ (s : System) (D rounds : ℕ) (Y : List ℤ) (h : 0 < s .n) (k : s .n ≤ mostTanks)
     (fits-answer : (i : ℕ) → SFits w32 (getD Y i (pos 0)))
     (fits-residual : (i : ℕ) → SFits w64 (residual (row s i) (trial (s .n) D Y)))
-    (fits-reach : (i : ℕ) → reach (row s i) (trial (s .n) D Y) < 256 ^ 8) where
+    (fits-reach : (i : ℕ) → reach (row s i) (trial (s .n) D Y) < 256 ^ 8)
+    {at : ℕ} {bytes : List ℕ} (c : HoldsCondition (s .n) rounds Y (judgement s (trial (s .n) D Y)) at bytes) where
   abbrev t : Trial
   t = trial (s .n) D Y
 
-  abbrev recordBytes : List ℕ
-  recordBytes = recordOf (s .n) rounds Y (judgement s t)
-
   -- the bytes agree with the judgement
-  agreeing : Agrees s t (recordedFinding (s .n) recordBytes)
+  agreeing : Agrees s t (recordedFinding (s .n) at bytes)
   agreeing =
-      let j = judgement s t in
       let g = judgement-agrees s t h k in
       record {
-        met = recorded-met (s .n) rounds Y j ∙ g .met;
-        unmet = recorded-unmet (s .n) rounds Y j ∙ g .unmet;
-        none = recorded-none (s .n) rounds Y j ∙ g .none;
-        decides = recorded-decides (s .n) rounds Y j ∙ g .decides;
-        R = λ i l. recorded-residual (s .n) rounds Y j i l (rw (g .R i l) (fits-residual i)) ∙ g .R i l;
-        T = λ i l. recorded-reach (s .n) rounds Y j i l (rw (g .T i l) (fits-reach i)) ∙ g .T i l;
+        met = recorded-met c ∙ g .met;
+        unmet = recorded-unmet c ∙ g .unmet;
+        none = recorded-none c ∙ g .none;
+        decides = recorded-decides c ∙ g .decides;
+        R = λ i l. recorded-residual c i l (rw (g .R i l) (fits-residual i)) ∙ g .R i l;
+        T = λ i l. recorded-reach c i l (rw (g .T i l) (fits-reach i)) ∙ g .T i l;
       }
 
-  answered : (j : ℕ) → j < s .n → recordedAnswer recordBytes j ≡ getD Y j (pos 0)
-  answered j l = recorded-answer (s .n) rounds Y (judgement s t) j l (fits-answer j)
+  answered : (j : ℕ) → j < s .n → recordedAnswer at bytes j ≡ getD Y j (pos 0)
+  answered j l = recorded-answer c j l (fits-answer j)
 
   -- so what they say of the answer that they hold is justified
-  record-justified : Justified s (record { n = s .n; D = D; Y = recordedAnswer recordBytes }) (recordedFinding (s .n) recordBytes)
-  record-justified =
-      justified s (record { n = s .n; D = D; Y = recordedAnswer recordBytes }) h (recordedFinding (s .n) recordBytes)
-      (agrees-with t (recordedAnswer recordBytes) (λ j l. sym (answered j l)) s (recordedFinding (s .n) recordBytes) agreeing)
+  condition-justified : Justified s (recordedTrial (s .n) D at bytes) (recordedFinding (s .n) at bytes)
+  condition-justified =
+      justified s (recordedTrial (s .n) D at bytes) h (recordedFinding (s .n) at bytes)
+      (agrees-with t (recordedAnswer at bytes) (λ j l. sym (answered j l)) s (recordedFinding (s .n) at bytes) agreeing)
+
+  -- and the condition is finished, by whatever kept answer has those figures and rounds
+  pub finished-condition : (kept : Solution) → ((j : ℕ) → j < s .n → getD Y j (pos 0) ≡ getD (kept .trial) j (pos 0)) → rounds ≡ kept .rounds
+      → Finished s D kept at bytes
+  finished-condition kept same e =
+      record {
+        answer = λ j l. answered j l ∙ same j l;
+        rounds = recorded-rounds c ∙ e;
+        justified = condition-justified;
+      }
 
 -- ---- a finished case
 
@@ -111,16 +118,12 @@ module _ (c : Case) (g : Good c) where
   fits-residual i = sfits-size (omega (arith, residual-le (systemOf c) D′ (a .trial) (limits c g) (ranges c g) (placed-answer c g .figures) i))
 
   -- the bytes of its record, by the judgement of the kept answer
-  finished-case : Finished c (recordOf (c .n) (a .rounds) (a .trial) (a .judgement))
-  finished-case =
-      rw (placed-answer c g .judgement-is)
-      (record {
-        answer = λ j l.
-            answered (systemOf c) D′ (a .rounds) (a .trial) (omega (arith, g .limits .least)) (g .limits .small) fits-figure fits-residual (reach-le c g (a .trial) (placed-answer c g .figures)) j l
-            ∙ getD-padded (pos 0) mostTanks (caseSolution c .trial) j;
-        rounds = recorded-rounds (c .n) (a .rounds) (a .trial) (judgement (systemOf c) (trial (c .n) D′ (a .trial)));
-        justified = record-justified (systemOf c) D′ (a .rounds) (a .trial) (omega (arith, g .limits .least)) (g .limits .small) fits-figure fits-residual (reach-le c g (a .trial) (placed-answer c g .figures));
-      })
+  finished-case : caseSolution c .status ≡ Accepted → Finished (systemOf c) D′ (caseSolution c) 0 (recordOf (c .n) (a .rounds) (a .trial) (a .judgement))
+  finished-case e =
+      subst (λ (j : Judgement). Finished (systemOf c) D′ (caseSolution c) 0 (recordOf (c .n) (a .rounds) (a .trial) j)) (sym (placed-answer c g .judgement-is e))
+      (finished-condition (systemOf c) D′ (a .rounds) (a .trial) (omega (arith, g .limits .least)) (g .limits .small) fits-figure fits-residual
+      (reach-le c g (a .trial) (placed-answer c g .figures)) (record-holds (c .n) (a .rounds) (a .trial) _) (caseSolution c)
+      (λ j l. getD-padded (pos 0) mostTanks (caseSolution c .trial) j) refl)
 
 -- ---- the call
 
@@ -153,7 +156,10 @@ module _ (input out : List ℕ) (m : ℕ) (e : judgeResult input out .outcome �
       record {
         case = from .figures;
         read = from .decoded;
-        finished = subst (λ b. Finished (from .figures) b) (sym (counted .front)) (rw (from .decoded) (finished-case (from .figures) fine));
+        finished =
+            let k = from .figures in
+            subst (λ b. Finished (systemOf k) (scaleOf (k .exponent)) (caseSolution k) 0 b) (sym (counted .front))
+            (rw (from .decoded) (finished-case k fine (from .answered)));
       }
 
 -- so a call that answers and leaves what the definition says keeps its promise
@@ -168,7 +174,7 @@ promised input entry o exit e =
 -- ---- what a record asks of an answer: rows and rounds of a byte each
 
 module _ (c : Case) (g : Good c) where
-  rounds-le : (k : ℕ) → k ≤ mostRounds → caseSolutionWith k c .status ≡ Accepted → caseSolutionWith k c .rounds ≤ mostRounds
+  rounds-le : (k : ℕ) → k ≤ mostRounds → let a = conditionSolution (systemOf c) (scaleOf (c .exponent)) k (c .Y) in a .status ≡ Accepted → a .rounds ≤ mostRounds
   rounds-le zero h e = omega arith
   rounds-le (suc k) h e = omega (arith, rounds (systemOf c) (scaleOf (c .exponent)) (suc k) (omega arith) e .few)
 
@@ -176,7 +182,7 @@ module _ (c : Case) (g : Good c) where
   unfolding caseSolution
   recordable room h e =
       let r = rounds-le (c .rounds) (g .limits .rounds-small) e in
-      let j = solution-answer c g .judgement-is in
+      let j = solution-answer c g .judgement-is e in
       let u = ap (λ k. k .unmet) j in
       let d = ap (λ k. k .decides) j in
       let t = trial (c .n) (scaleOf (c .exponent)) (caseSolution c .trial) in
@@ -185,10 +191,13 @@ module _ (c : Case) (g : Good c) where
       let dl = deciding-below (systemOf c) t (omega (arith, g .limits .least)) in
       let small = g .limits .small in
       record {
-        rows = g .limits .small;
-        rounds-byte = omega arith;
-        unmet-byte = omega (arith, u, a .unmet, ul);
-        decides-byte = omega (arith, d, a .decides, dl);
+        figures =
+            record {
+              rows = g .limits .small;
+              rounds-byte = omega arith;
+              unmet-byte = omega (arith, u, a .unmet, ul);
+              decides-byte = omega (arith, d, a .decides, dl);
+            };
         enough = omega arith;
       }
 

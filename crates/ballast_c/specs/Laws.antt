@@ -12,11 +12,12 @@ use Rattle.outcome.specs.declared.Outcome.the-variants.{Count, Refused}
 use Rattle.outcome.specs.declared.Refusal.{Refusal}
 use Rattle.casefile.specs.Case.{Case}
 use Rattle.casefile.specs.CaseLaws.{decode-good}
-use Rattle.casefile.specs.Decode.{Decoded, refused, decode, stored}
-use Rattle.casefile.specs.StoredLaws.{Whole}
+use Rattle.casefile.specs.Decode.{Decoded, refused, decode}
 use Rattle.casefile.specs.Write.{write}
 use Rattle.casefile.specs.WriteLaws.{count-le as case-count-le}
-use Rattle.casefile.specs.declared.StoredCase.{StoredCase}
+use Rattle.case_reader.specs.Read.{CaseLists}
+use Rattle.case_reader.specs.ReadLaws.{CaseHeld}
+use Rattle.case_reader.specs.declared.CaseHead.{CaseHead}
 use Rattle.ballast.specs.Demand.{Promise}
 use Rattle.ballast.specs.Theorem.{count-le}
 use Rattle.report.specs.Text.{textRoom}
@@ -40,13 +41,13 @@ pub tanks-refused : (d : Decoded) (r : Refusal) → d ≡ refused r → Refused 
 unfolding tankCount
 tanks-refused d r e = rw e
 
-pub tanks-accepted : (d : Decoded) (c : StoredCase) → Whole d c → Count (c .n) ≡ tankCount d
-unfolding tankCount stored
-tanks-accepted d c w = rw (w .held, w .decoded)
+module _ (input : List ℕ) (r : CaseHead) {before after : CaseLists} (w : CaseHeld (decode input) before r after) where
+  pub tanks-accepted : Count (r .n) ≡ tankCount (decode input)
+  unfolding tankCount
+  tanks-accepted = rw (w .decoded) (ap (λ x. Count (x .n)) (w .head))
 
-pub few-tanks : (input : List ℕ) (c : StoredCase) → Whole (decode input) c → c .n ≤ textRoom
-unfolding stored
-few-tanks input c w = rw (w .held) (omega (arith, decode-good input (w .figures) (w .decoded) .limits .small))
+  pub few-tanks : r .n ≤ textRoom
+  few-tanks = omega (arith, ap (λ x. x .n) (w .head), decode-good input (w .figures) (w .decoded) .limits .small)
 
 -- ---- judging
 

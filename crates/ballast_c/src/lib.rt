@@ -6,6 +6,8 @@ ghost use Rattle.casefile.specs.Write.{write};
 ghost use Rattle.verdict_text.specs.Verdict.{textCall};
 ghost use Rattle.ballast_c.specs.Calls.{tankCount, Judged};
 ghost use Rattle.ballast_c.specs.Result.{resultNumber, CountFits, Returned};
+use limits::MOST_COEFFICIENTS;
+use limits::MOST_TANKS;
 use outcome::Outcome;
 use outcome::Status;
 
@@ -25,13 +27,24 @@ fn result(outcome: Outcome) -> i64
 pub extern "C" fn ballast_check_case(input: &[u8]) -> i64
     ensures { λ r. ⌜ r ≡ resultNumber (tankCount (decode (now (input .entry)))) ⌝ }
 {
-    let reading = case_reader::read_case(input);
-    let status = reading.status;
+    let mut coefficients = [0i16; MOST_COEFFICIENTS];
+    let mut tolerances = [0u16; MOST_COEFFICIENTS];
+    let mut right_sides = [0i32; MOST_TANKS];
+    let mut right_tolerances = [0u32; MOST_TANKS];
+    let mut trial = [0i32; MOST_TANKS];
+    let head = case_reader::read_case(
+        input,
+        &mut coefficients,
+        &mut tolerances,
+        &mut right_sides,
+        &mut right_tolerances,
+        &mut trial,
+    );
+    let status = head.status;
     if let Status::Refused(refusal) = status {
         return result(Outcome::Refused(refusal));
     }
-    let case = reading.case;
-    result(Outcome::Count(case.n))
+    result(Outcome::Count(head.n))
 }
 
 // Judges a case into a buffer.

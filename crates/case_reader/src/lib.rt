@@ -2,29 +2,29 @@
 mod row_fields;
 
 ghost use lib.ListN.{drop};
-ghost use Rattle.casefile.specs.Decode.{refused as refusedBy, decode, CaseRead};
+ghost use Rattle.casefile.specs.Decode.{refused as refusedBy, decode};
 ghost use Rattle.casefile.specs.Layout.{rowsEnd};
-ghost use Rattle.case_reader.specs.Read.{HeadFound, TrialFits, TrialFound, TailFound};
-use casefile::Reading;
-use casefile::StoredCase;
+ghost use Rattle.case_reader.specs.Read.{HeadFound, TrialFits, TrialFound, TailFound, caseLists, CaseFound, CaseReadInto};
 use fields::HEADER_SIZE;
+use limits::MOST_COEFFICIENTS;
+use limits::MOST_TANKS;
 use outcome::Refusal;
 use outcome::Status;
 
-// What reading the head gives: the first refusal or none, and the figures where there is none.
-struct Head {
-    status: Status,
-    n: usize,
-    exponent: usize,
-    rounds: usize,
+// The first refusal or none, and n, the exponent e and the rounds K.
+pub struct CaseHead {
+    pub status: Status,
+    pub n: usize,
+    pub exponent: usize,
+    pub rounds: usize,
 }
 
-fn read_head(s: &[u8]) -> Head
+fn read_head(s: &[u8]) -> CaseHead
     ensures { λ r. ⌜ HeadFound (now (s .entry)) r ⌝ }
 {
     let field = fields::check_field(s, 0, casefile::HEAD_TAG, casefile::HEAD_LENGTH);
     if let Status::Refused(_) = field {
-        return Head {
+        return CaseHead {
             status: field,
             n: 0,
             exponent: 0,
@@ -35,7 +35,7 @@ fn read_head(s: &[u8]) -> Head
     let exponent = s[casefile::EXPONENT_AT] as usize;
     let rounds = s[casefile::ROUNDS_AT] as usize;
     let fine = casefile::head_fine(n, exponent, rounds);
-    Head {
+    CaseHead {
         status: outcome::check(fine, Refusal::OutsideLimits),
         n,
         exponent,
@@ -85,67 +85,104 @@ fn read_tail(s: &[u8], rounds: usize, n: usize, y: &mut [i32]) -> Status
     )
 }
 
-// A refusal, beside a case of zeros.
-pub fn refused(refusal: Refusal) -> Reading
-    ensures { λ r. ⌜ CaseRead (refusedBy refusal) r ⌝ }
+// The refusal, and the five lists all zeros.
+fn refused(
+    refusal: Refusal,
+    coefficients: &mut [i16; MOST_COEFFICIENTS],
+    tolerances: &mut [u16; MOST_COEFFICIENTS],
+    right_sides: &mut [i32; MOST_TANKS],
+    right_tolerances: &mut [u32; MOST_TANKS],
+    trial: &mut [i32; MOST_TANKS],
+) -> CaseHead
+    ensures { λ r. ⌜ CaseReadInto (refusedBy refusal) (caseLists (now (coefficients .entry)) (now (tolerances .entry)) (now («right_sides» .entry)) (now («right_tolerances» .entry)) (now (trial .entry))) r (caseLists (now (coefficients .exit)) (now (tolerances .exit)) (now («right_sides» .exit)) (now («right_tolerances» .exit)) (now (trial .exit))) ⌝ }
 {
-    let coefficients = [0i16; limits::MOST_COEFFICIENTS];
-    let tolerances = [0u16; limits::MOST_COEFFICIENTS];
-    let right_sides = [0i32; limits::MOST_TANKS];
-    let right_tolerances = [0u32; limits::MOST_TANKS];
-    let trial = [0i32; limits::MOST_TANKS];
-    let case = StoredCase {
+    *coefficients = [0i16; MOST_COEFFICIENTS];
+    *tolerances = [0u16; MOST_COEFFICIENTS];
+    *right_sides = [0i32; MOST_TANKS];
+    *right_tolerances = [0u32; MOST_TANKS];
+    *trial = [0i32; MOST_TANKS];
+    CaseHead {
+        status: Status::Refused(refusal),
         n: 0,
         exponent: 0,
         rounds: 0,
+    }
+}
+
+// All fields: the first refusal, or none, the head, and the figures over the fronts of the five lists.
+// After a refusal what the lists hold is left open: `read_case` then clears them.
+fn read_fields(
+    s: &[u8],
+    coefficients: &mut [i16; MOST_COEFFICIENTS],
+    tolerances: &mut [u16; MOST_COEFFICIENTS],
+    right_sides: &mut [i32; MOST_TANKS],
+    right_tolerances: &mut [u32; MOST_TANKS],
+    trial: &mut [i32; MOST_TANKS],
+) -> CaseHead
+    ensures { λ r. ⌜ CaseFound (now (s .entry)) (caseLists (now (coefficients .entry)) (now (tolerances .entry)) (now («right_sides» .entry)) (now («right_tolerances» .entry)) (now (trial .entry))) r (caseLists (now (coefficients .exit)) (now (tolerances .exit)) (now («right_sides» .exit)) (now («right_tolerances» .exit)) (now (trial .exit))) ⌝ }
+{
+    let head = read_head(s);
+    let found = head.status;
+    if let Status::Refused(_) = found {
+        return head;
+    }
+    let n = head.n;
+    let rounds = head.rounds;
+    let rows = row_fields::read_rows(
+        s,
+        casefile::ROWS_AT,
+        n,
+        coefficients,
+        tolerances,
+        right_sides,
+        right_tolerances,
+    );
+    if let Status::Refused(_) = rows {
+        return CaseHead {
+            status: rows,
+            n: 0,
+            exponent: 0,
+            rounds: 0,
+        };
+    }
+    CaseHead {
+        status: read_tail(s, rounds, n, trial),
+        n,
+        exponent: head.exponent,
+        rounds,
+    }
+}
+
+// Reads a case into the five lists. After acceptance its figures stand over the lists' fronts, and the places beyond them are as they were. A refusal is the
+// first in document 01's order, and the lists are then all zeros.
+pub fn read_case(
+    s: &[u8],
+    coefficients: &mut [i16; MOST_COEFFICIENTS],
+    tolerances: &mut [u16; MOST_COEFFICIENTS],
+    right_sides: &mut [i32; MOST_TANKS],
+    right_tolerances: &mut [u32; MOST_TANKS],
+    trial: &mut [i32; MOST_TANKS],
+) -> CaseHead
+    ensures { λ r. ⌜ CaseReadInto (decode (now (s .entry))) (caseLists (now (coefficients .entry)) (now (tolerances .entry)) (now («right_sides» .entry)) (now («right_tolerances» .entry)) (now (trial .entry))) r (caseLists (now (coefficients .exit)) (now (tolerances .exit)) (now («right_sides» .exit)) (now («right_tolerances» .exit)) (now (trial .exit))) ⌝ }
+{
+    let head = read_fields(
+        s,
         coefficients,
         tolerances,
         right_sides,
         right_tolerances,
         trial,
-    };
-    Reading {
-        status: Status::Refused(refusal),
-        case,
-    }
-}
-
-// Reads a case. A refusal is the first in document 01's order, beside a case of zeros. After acceptance every place past the used ones is zero.
-pub fn read_case(s: &[u8]) -> Reading
-    ensures { λ r. ⌜ CaseRead (decode (now (s .entry))) r ⌝ }
-{
-    let head = read_head(s);
+    );
     let found = head.status;
     if let Status::Refused(q) = found {
-        return refused(q);
+        return refused(
+            q,
+            coefficients,
+            tolerances,
+            right_sides,
+            right_tolerances,
+            trial,
+        );
     }
-    let n = head.n;
-    let rounds = head.rounds;
-    let mut a = [0i16; limits::MOST_COEFFICIENTS];
-    let mut t = [0u16; limits::MOST_COEFFICIENTS];
-    let mut b = [0i32; limits::MOST_TANKS];
-    let mut f = [0u32; limits::MOST_TANKS];
-    let mut y = [0i32; limits::MOST_TANKS];
-    let rows = row_fields::read_rows(s, casefile::ROWS_AT, n, &mut a, &mut t, &mut b, &mut f);
-    if let Status::Refused(q) = rows {
-        return refused(q);
-    }
-    let tail = read_tail(s, rounds, n, &mut y);
-    if let Status::Refused(q) = tail {
-        return refused(q);
-    }
-    let case = StoredCase {
-        n,
-        exponent: head.exponent,
-        rounds,
-        coefficients: a,
-        tolerances: t,
-        right_sides: b,
-        right_tolerances: f,
-        trial: y,
-    };
-    Reading {
-        status: Status::Accepted,
-        case,
-    }
+    head
 }

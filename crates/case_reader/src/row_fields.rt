@@ -41,7 +41,7 @@ fn read_row(
 }
 
 // The fields of n rows from a place of s on: the first refusal, or none and their figures over the fronts of the four lists.
-// After a refusal what the lists hold is left open: `read_case`, which alone calls this, then gives a case of zeros.
+// After a refusal what the lists hold is left open: `read_case` then clears them.
 pub fn read_rows(
     s: &[u8],
     at: usize,

@@ -4,7 +4,7 @@ use Prim.Native.Nat.{ℕ, _*_, _≤_}
 use lib.IntN.{pos}
 use lib.ListN.{length, take, replicate}
 use mathlib.Core.List.{List}
-use mathlib.Core.Path.{_≡_, sym, ap, _∙_}
+use mathlib.Core.Path.{_≡_, sym, ap, ap₂, _∙_}
 use native.Mathlib.Omega.{arith}
 use Rattle.limits.specs.Limits.{mostTanks, mostCoefficients}
 use Rattle.buffer.specs.Laws.{take-onto, holds}
@@ -18,15 +18,16 @@ use Rattle.outcome.specs.declared.Refusal.{Refusal}
 use Rattle.bigendian.specs.Number.{Bytes}
 use Rattle.casefile.specs.Case.{Case, caseWith, trialCount}
 use Rattle.casefile.specs.CaseLaws.{Good, decode-good}
-use Rattle.casefile.specs.Decode.{accepted, refused, decoded, decode, places, heldRows, stored, CaseRead}
+use Rattle.casefile.specs.Decode.{accepted, refused, decoded, decode, places, CaseRead}
 use Rattle.casefile.specs.RowsLaws.{square-fits}
 use Rattle.casefile.specs.SoundLaws.{counts}
-use Rattle.casefile.specs.StoredLaws.{Whole}
 use Rattle.casefile.specs.TailLaws.{given-trial-most}
 use Rattle.casefile.specs.Write.{writeStatus, write}
 use Rattle.casefile.specs.WriteLaws.{count-accepted, count-fits, written-read, refused-status, read-written}
 use Rattle.casefile.specs.declared.Reading.{Reading}
-use Rattle.casefile.specs.declared.StoredCase.{StoredCase}
+use Rattle.case_reader.specs.Read.{CaseLists, zeroLists}
+use Rattle.case_reader.specs.ReadLaws.{CaseHeld}
+use Rattle.case_reader.specs.declared.CaseHead.{CaseHead}
 use Rattle.case_roundtrip.specs.Trip.{WrittenAndRead, writtenAgain}
 
 -- ---- written, then read
@@ -52,27 +53,25 @@ module _ (c : Case) (out : List ℕ) (o : Outcome) {exit : List ℕ} (e : callRe
 -- ---- read, then written
 
 -- the case of the lists that a caller hands on, k figures of its trial
-abbrev handed : StoredCase → ℕ → Case
-handed p k =
-    caseWith (p .n) (p .exponent) (p .rounds) (front (p .n * p .n) (p .n) (heldRows p)) (take k (p .trial))
+abbrev handed : CaseHead → CaseLists → ℕ → Case
+handed r lists k = caseWith (r .n) (r .exponent) (r .rounds) (front (r .n * r .n) (r .n) (lists .rows)) (take k (lists .Y))
 
-pub record Small (p : StoredCase) : Type 0 where
-  pub rows : RowsRoom (p .n) (heldRows p)
-  pub square : p .n * p .n ≤ mostCoefficients
-  pub trial-count : trialCount (p .rounds) (p .n) ≤ mostTanks
-  pub trial : trialCount (p .rounds) (p .n) ≤ length (p .trial)
+pub record Small (r : CaseHead) (lists : CaseLists) : Type 0 where
+  pub rows : RowsRoom (r .n) (lists .rows)
+  pub square : r .n * r .n ≤ mostCoefficients
+  pub trial-count : trialCount (r .rounds) (r .n) ≤ mostTanks
+  pub trial : trialCount (r .rounds) (r .n) ≤ length (lists .Y)
 
-module _ (s : List ℕ) (p : StoredCase) (w : Whole (decode s) p) where
+module _ (s : List ℕ) (r : CaseHead) (lists : CaseLists) (w : CaseHeld (decode s) zeroLists r lists) where
   abbrev c : Case
   c = w .figures
 
   fine : Good c
   fine = decode-good s c (w .decoded)
 
-  pub small : Small p
-  unfolding stored
+  pub small : Small r lists
   small =
-      rw (w .held)
+      rw (w .head, w .lists)
       (record {
         rows = record { small = fine .limits .small; room = room-over (c .rows) places (counts (fine .rows)) };
         square = square-fits _ (fine .limits .small);
@@ -80,12 +79,11 @@ module _ (s : List ℕ) (p : StoredCase) (w : Whole (decode s) p) where
         trial = holds _ (c .Y) (replicate mostTanks (pos 0)) (fine .trial .count);
       })
 
-  given-is : (k : ℕ) → k ≡ trialCount (p .rounds) (p .n) → handed p k ≡ c
-  unfolding stored
+  given-is : (k : ℕ) → k ≡ trialCount (r .rounds) (r .n) → handed r lists k ≡ c
   given-is k q =
-      ap (handed p) q
-      ∙ ap (λ x. handed x (trialCount (x .rounds) (x .n))) (w .held)
+      ap (handed r lists) q
+      ∙ ap₂ (λ x l. handed x l (trialCount (x .rounds) (x .n))) (w .head) (w .lists)
       ∙ rw (front-over (c .rows) places (counts (fine .rows)), take-onto (c .Y) (replicate mostTanks (pos 0)) _ (fine .trial .count))
 
-  pub again : (k : ℕ) → k ≡ trialCount (p .rounds) (p .n) → Bytes s → (out : List ℕ) → write (handed p k) out ≡ writtenAgain (decode s) s out
+  pub again : (k : ℕ) → k ≡ trialCount (r .rounds) (r .n) → Bytes s → (out : List ℕ) → write (handed r lists k) out ≡ writtenAgain (decode s) s out
   again k q bs out = rw (given-is k q, w .decoded) (read-written s c out bs (w .decoded))

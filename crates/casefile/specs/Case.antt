@@ -65,7 +65,8 @@ rowsFine r =
 unfoldable pub figuresFine : Case → Bool
 figuresFine c = rowsFine (c .rows) && allWithinLimit trialLimit (c .Y)
 
--- "then with 6 an n, e or K outside its limits; then with 4 a list whose count is not the one due ..; then with 6 any other figure outside its limits"
+-- "then with 6 an n, e or K outside its limits; then with 4 a list whose count is not the one due ..; then with 6 any other figure outside
+-- its limits"
 unfoldable pub caseStatus : Case → Status
 caseStatus c =
     first (check (headFine (c .n) (c .exponent) (c .rounds)) OutsideLimits)

@@ -1,6 +1,6 @@
 -- Definitions only.
--- What reading bytes as a case gives: the first refusal in document 01's order ("fields are taken from the front, and at each field 2 to 6 in turn"), or the case; and the case
--- as the program holds it.
+-- What reading bytes as a case gives: the first refusal in document 01's order ("fields are taken from the front, and at each field 2 to 6 in
+-- turn"), or the case; and the case in arrays with zeros behind its figures, which only the round trip returns.
 use Prim.Native.Nat.{ℕ, zero, suc}
 use lib.IntN.{ℤ, pos}
 use lib.ListN.{getD, drop, replicate}
@@ -125,7 +125,7 @@ decoded (Refused r) c = refused r
 unfoldable pub decode : List ℕ → Decoded
 decode s = decoded (inputStatus s) (caseOf s)
 
--- ---- what was read, as the program holds it
+-- ---- what was read, in arrays with zeros behind the figures
 
 -- a list at the front of k places that were zero
 abbrev pub padded : {X : Type 0} → ℕ → X → List X → List X
@@ -134,10 +134,6 @@ padded k z l = onto l (replicate k z)
 -- places for the rows of any case
 abbrev pub places : Block
 places = block (replicate mostCoefficients (pos 0)) (replicate mostCoefficients 0) (replicate mostTanks (pos 0)) (replicate mostTanks 0)
-
--- the rows that a case holds, with zeros behind them
-abbrev pub heldRows : StoredCase → Block
-heldRows c = block (c .coefficients) (c .tolerances) (c .«right_sides») (c .«right_tolerances»)
 
 abbrev pub held : ℕ → ℕ → ℕ → Block → List ℤ → StoredCase
 held n exponent rounds rows trial =

@@ -88,8 +88,8 @@ nineTanks = 0x01 ∷ 0x00 ∷ 0x03 ∷ 0x09 ∷ 0x01 ∷ 0x01 ∷ []
 abbrev pub leastCoefficient : List ℕ
 leastCoefficient = take (rowsAt + headerSize) printedBytes ++ (0x80 ∷ 0x00 ∷ drop (rowsAt + headerSize + i16Kind .width) printedBytes)
 
--- in the order of the answers below: printed; longest; nothing at all; an end field at the head's place; a head of length 4; a head whose value is cut short;
--- n 9; coefficient −32,768; a last field that is cut short; a byte behind the end field
+-- in the order of the answers below: printed; longest; nothing at all; an end field at the head's place; a head of length 4; a head whose value is
+-- cut short; n 9; coefficient −32,768; a last field that is cut short; a byte behind the end field
 abbrev inputs : List (List ℕ)
 inputs =
     printedBytes

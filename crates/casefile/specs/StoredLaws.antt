@@ -1,22 +1,18 @@
 -- What a padded list holds: at every place, past the end too, what the list holds there, with zero past its end.
--- And what a reading tells of the bytes that were read. Assumes nothing.
+-- And that what is promised of a reading is the reading. Assumes nothing.
 use Prim.Native.Nat.{ℕ, zero, suc, _+_, _≤_}
 use borrow.Author.Tests.{leb-true, le-leb}
 use lib.ListN.{length, getD, drop, replicate}
 use lib.Seq.{getD-drop}
 use mathlib.Core.List.{List, [], _∷_, _++_}
-use mathlib.Core.Path.{_≡_, refl, ap, ap₂, _∙_}
+use mathlib.Core.Path.{_≡_, refl, ap₂, _∙_}
 use native.Mathlib.Omega.{arith}
 use Rattle.buffer.specs.AllLaws.{all-at}
 use Rattle.integers.specs.TableLaws.{same-at}
-use Rattle.outcome.specs.Laws.{same-status, not-both}
-use Rattle.outcome.specs.Outcome.{statusNumber}
-use Rattle.outcome.specs.declared.Refusal.{Refusal}
+use Rattle.outcome.specs.Laws.{same-status}
 use Rattle.outcome.specs.declared.Status.{Status}
-use Rattle.outcome.specs.declared.Status.the-variants.{Accepted, Refused}
 use Rattle.figures.specs.Figures.{upToLimit}
-use Rattle.casefile.specs.Case.{Case}
-use Rattle.casefile.specs.Decode.{Decoded, accepted, refused, padded, stored, reading, CaseRead}
+use Rattle.casefile.specs.Decode.{Decoded, padded, reading, CaseRead}
 use Rattle.casefile.specs.SoundLaws.{Sound}
 use Rattle.casefile.specs.declared.Reading.{Reading}
 use Rattle.casefile.specs.declared.StoredCase.{StoredCase}
@@ -37,37 +33,13 @@ pub padded-within : {X : Type 0} (size : X → ℕ) (z : X) → size z ≡ 0 →
 padded-within size z e k limit {l = l} s i =
     rw (getD-padded z k l i) (leb-true _ _ (all-at (λ x. upToLimit limit (size x)) z (le-leb _ limit (omega arith)) l (s .fine) i))
 
--- ---- what a reading tells
-
--- the case that was read, and how it is held
-pub record Whole (d : Decoded) (held-case : StoredCase) : Type 0 where
-  pub figures : Case
-  pub decoded : d ≡ accepted figures
-  pub held : held-case ≡ stored figures
-
 module _ (d : Decoded) (r : Reading) where
-  pub case-read : r ≡ reading d → CaseRead d r
-  case-read e = record { number = ap (λ x. statusNumber (x .status)) e; case = ap (λ x. x .case) e }
-
   status-read : CaseRead d r → r .status ≡ reading d .status
   status-read w = same-status (r .status) (reading d .status) (w .number)
 
-  -- and so the reading itself
+  -- the reading is the one defined
   pub read-is : CaseRead d r → r ≡ reading d
   read-is w = ap₂ made (status-read w) (w .case)
     where
       made : Status → StoredCase → Reading
       made x c = record { status = x; case = c }
-
-pub reading-accepted : (d : Decoded) (r : Reading) → CaseRead d r → r .status ≡ Accepted → Whole d (r .case)
-unfolding reading
-reading-accepted (accepted c) r w h = record { figures = c; decoded = refl; held = w .case }
-reading-accepted (refused q) r w h = not-both (r .status) q (status-read (refused q) r w) h
-
-pub reading-refused : (d : Decoded) (r : Reading) → CaseRead d r → (q : Refusal) → r .status ≡ Refused q → d ≡ refused q
-unfolding reading
-reading-refused (accepted c) r w q h = not-both (r .status) q h (status-read (accepted c) r w)
-reading-refused (refused x) r w q h =
-    let t : r .status ≡ Refused x = status-read (refused x) r w in
-    let s : x ≡ q = cc in
-    ap refused s

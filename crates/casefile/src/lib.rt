@@ -1,5 +1,5 @@
-// A case as the program holds it, what reading gives, whether n, e and K are within their limits, and the tags, lengths and places of its fields in bytes,
-// with how many figures the trial has.
+// A case in arrays, as the round trip returns it; whether n, e and K are within their limits; and the tags, lengths and places of a case's fields in
+// bytes, with how many figures the trial has.
 ghost use Prim.Native.Nat.{_≤_};
 ghost use mathlib.Core.Path.{_≡_};
 ghost use Rattle.limits.specs.Limits.{mostTanks};
@@ -31,8 +31,8 @@ pub const ROUNDS_AT: usize = EXPONENT_AT + 1;
 
 pub const ROWS_AT: usize = fields::HEADER_SIZE + HEAD_LENGTH;
 
-// The figures of a case: n, the exponent e, the rounds K; coefficients and tolerances row after row, row i from i * n on;
-// the right sides, their tolerances and the trial. Places past the used ones are zero.
+// A case in arrays with zeros behind its figures: n, the exponent e, the rounds K; coefficients and tolerances row after row, row i from i * n on;
+// the right sides, their tolerances and the trial.
 pub struct StoredCase {
     pub n: usize,
     pub exponent: usize,
@@ -44,7 +44,7 @@ pub struct StoredCase {
     pub trial: [i32; MOST_TANKS],
 }
 
-// What reading a file gives: the case, or the first refusal beside a case of zeros.
+// The case that a file holds, or the first refusal beside a case of zeros: only the round trip returns it.
 pub struct Reading {
     pub status: Status,
     pub case: StoredCase,
@@ -59,8 +59,8 @@ pub struct RowPlaces {
     pub size: usize,
 }
 
-// What follows the rows of n tanks: where the trial's field begins, how many figures the trial has, how long its value is where there is one, and where the end
-// field begins.
+// What follows the rows of n tanks: where the trial's field begins, how many figures the trial has, how long its value is where there is one, and
+// where the end field begins.
 pub struct TailPlaces {
     pub trial: usize,
     pub trial_count: usize,
@@ -77,8 +77,8 @@ pub fn head_fine(n: usize, exponent: usize, rounds: usize) -> bool
             & ((exponent <= limits::MOST_EXPONENT) & (rounds <= limits::MOST_ROUNDS)))
 }
 
-// Where a row's tolerances, right side and its tolerance stand in the row's value, each behind the figures before it; how long the value is; and the bytes of
-// the row's field, header and value.
+// Where a row's tolerances, right side and its tolerance stand in the row's value, each behind the figures before it; how long the value is; and the
+// bytes of the row's field, header and value.
 pub fn row_places(n: usize) -> RowPlaces
     requires { ⌜ n ≤ mostTanks ⌝ }
     ensures { λ r. ⌜ RowPlaced n r ⌝ }

@@ -71,10 +71,6 @@ pub sum-none : (n : ℕ) (f : ℕ → ℤ) → ((j : ℕ) → j < n → f j ≡ 
 sum-none zero f h = refl
 sum-none (suc n) f h = ap₂ (λ x y. x +ℤ y) (sum-none n f (λ j l. h j (omega arith))) (h n (omega arith))
 
-pub total-none : (n : ℕ) (f : ℕ → ℕ) → ((j : ℕ) → j < n → f j ≡ 0) → total n f ≡ 0
-total-none zero f h = refl
-total-none (suc n) f h = ap₂ (λ x y. x + y) (total-none n f (λ j l. h j (omega arith))) (h n (omega arith))
-
 -- ---- sizes
 
 -- where v f(j) ≤ w g(j) at each place, the same holds of the sums

@@ -1,6 +1,6 @@
-// Laws of whole numbers, in specs/, and in code the absolute value and the powers of ten that an exponent of a case asks.
-ghost use Prim.Native.Nat.{_^_, _<_};
-ghost use lib.IntN.{natAbs};
+// Laws of whole numbers, in specs/, and in code the absolute value, the powers of ten that an exponent of a case asks, and what they scale.
+ghost use Prim.Native.Nat.{_^_, _<_, _≤_};
+ghost use lib.IntN.{pos, natAbs, _*ℤ_};
 ghost use mathlib.Core.Path.{_≡_};
 
 // The absolute value of any number, the least one too.
@@ -22,4 +22,11 @@ pub fn power_of_ten(e: usize) -> u16
     ensures { λ r. ⌜ r ≡ 10 ^ e ⌝ }
 {
     POWERS_OF_TEN[e]
+}
+
+// D times a figure.
+pub fn scaled(scale: u16, figure: i32) -> i64
+    ensures { λ r. ⌜ (r ≡ pos scale *ℤ figure) × (natAbs r ≤ 2 ^ 47) ⌝ }
+{
+    (scale as i64) * (figure as i64)
 }

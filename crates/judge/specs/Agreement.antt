@@ -28,12 +28,12 @@ module _ (t : Trial) (Y : ℕ → ℤ) (same : (j : ℕ) → j < t .n → t .Y j
   abbrev pub withFigures : Trial
   withFigures = record { n = t .n; D = t .D; Y = Y }
 
-  same-residual : (r : Row) → residual r t ≡ residual r withFigures
+  pub same-residual : (r : Row) → residual r t ≡ residual r withFigures
   unfolding residual
   same-residual r =
       ap (λ x. pos (t .D) *ℤ r .b -ℤ x) (sum-cong (t .n) (λ j. r .A j *ℤ t .Y j) (λ j. r .A j *ℤ Y j) (λ j l. ap (λ y. r .A j *ℤ y) (same j l)))
 
-  same-reach : (r : Row) → reach r t ≡ reach r withFigures
+  pub same-reach : (r : Row) → reach r t ≡ reach r withFigures
   unfolding reach
   same-reach r =
       ap (λ x. t .D * r .f + x) (total-cong (t .n) (λ j. r .E j * natAbs (t .Y j)) (λ j. r .E j * natAbs (Y j)) (λ j l. ap (λ y. r .E j * natAbs y) (same j l)))

@@ -8,10 +8,9 @@ use lib.ListN.{getD}
 use mathlib.Core.Bool.{Bool, true, false}
 use mathlib.Core.Path.{_≡_}
 use Rattle.fractions.specs.Fraction.{orderedDenominator}
-use Rattle.judge.specs.Judgement.{firstUnmet, deciding, noFactor}
+use Rattle.judge.specs.Judgement.{Judgement, firstUnmet, deciding, noFactor}
 use Rattle.judge.specs.Perturbation.{Solve, Keep, Possible, PossibleUnder, yieldedPerturbation}
 use Rattle.judge.specs.System.{System, Trial, row, residual, reach}
-use Rattle.judge.specs.declared.Judgement.{Judgement}
 
 -- What is said. The named row `unmet` and the row that `decides` are counted from 1; R and T are the residual and reach said of each row, from 0.
 pub record Finding : Type 0 where

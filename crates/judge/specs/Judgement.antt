@@ -1,8 +1,8 @@
 -- Definitions only.
 -- The judgement of a trial: document 01's "Judgement", row by row in the system's own order.
-use Prim.Native.Nat.{ℕ, zero, suc, _*_}
+use Prim.Native.Nat.{ℕ, zero, suc}
 use lib.Dec.{leb, eqb}
-use lib.IntN.{ℤ, pos, natAbs, _*ℤ_}
+use lib.IntN.{ℤ, pos, natAbs}
 use lib.ListN.{getD}
 use mathlib.Core.Bool.{Bool, cond, not, _&&_}
 use mathlib.Core.List.{List}
@@ -11,8 +11,31 @@ use Rattle.integers.specs.Tables.{filled}
 use Rattle.fractions.specs.Fraction.{_over_, Fraction}
 use Rattle.fractions.specs.Greatest.{firstGreatest}
 use Rattle.judge.specs.System.{Trial, System, residual, reach, row}
-use Rattle.judge.specs.declared.Judgement.{Judgement}
-use Rattle.judge.specs.declared.Measurement.{Measurement}
+use Rattle.judge.specs.declared.Conclusion.{Conclusion}
+
+-- What a trial leaves of the rows: the first unmet one, counted from 1, or 0, and residual and reach of each, in eight places.
+pub record Measurement : Type 0 where
+  pub unmet : ℕ
+  pub residuals : List ℤ
+  pub reaches : List ℕ
+
+-- What is said of a trial: whether every row is met, the first that is not, whether some row has no factor, and the row that decides, rows counted
+-- from 1; with residual and reach of each row.
+pub record Judgement : Type 0 where
+  pub met : Bool
+  pub unmet : ℕ
+  pub none : Bool
+  pub decides : ℕ
+  pub residuals : List ℤ
+  pub reaches : List ℕ
+
+-- the same from what code returns and the lists that it was lent
+abbrev pub measurementFrom : ℕ → List ℤ → List ℕ → Measurement
+measurementFrom unmet residuals reaches = record { unmet = unmet; residuals = residuals; reaches = reaches }
+
+abbrev pub judgementFrom : Conclusion → List ℤ → List ℕ → Judgement
+judgementFrom c residuals reaches =
+    record { met = c .met; unmet = c .unmet; none = c .none; decides = c .decides; residuals = residuals; reaches = reaches }
 
 -- "A row is met exactly if |R| is at most T."
 abbrev pub rowMet : ℤ → ℕ → Bool
@@ -46,9 +69,9 @@ residualVector s t = filled mostTanks (s .n) (pos 0) (λ i. residual (row s i) t
 abbrev pub reachVector : System → Trial → List ℕ
 reachVector s t = filled mostTanks (s .n) 0 (λ i. reach (row s i) t)
 
--- what a trial leaves of the rows: the first unmet one, with residual and reach of each
+-- of a trial for a system
 abbrev pub measurement : System → Trial → Measurement
-measurement s t = record { unmet = firstUnmet s t; residuals = residualVector s t; reaches = reachVector s t }
+measurement s t = measurementFrom (firstUnmet s t) (residualVector s t) (reachVector s t)
 
 -- the row that decides, counted from 0, of n rows whose residuals and reaches stand in eight places: the first that has no factor, or the first
 -- with the greatest
@@ -75,10 +98,3 @@ judgement s t = concluded (s .n) (measurement s t)
 -- the row that decides, by the rows themselves: the same for at most eight rows (`deciding-is` in Laws)
 unfoldable pub deciding : System → Trial → ℕ
 deciding s t = firstGreatest (λ i. factor (residual (row s i) t) (reach (row s i) t)) (s .n)
-
--- in eight places: D b and D f of each row
-abbrev pub scaledRightSides : ℕ → ℕ → List ℤ → List ℤ
-scaledRightSides n D b = filled mostTanks n (pos 0) (λ i. pos D *ℤ getD b i (pos 0))
-
-abbrev pub scaledRightTolerances : ℕ → ℕ → List ℕ → List ℕ
-scaledRightTolerances n D f = filled mostTanks n 0 (λ i. D * getD f i 0)

@@ -4,7 +4,7 @@ use lib.Dec.{eqb}
 use lib.IntN.{ℤ, pos}
 use lib.ListN.{getD}
 use mathlib.Core.Bool.{Bool, true, false, cond}
-use mathlib.Core.List.{List, []}
+use mathlib.Core.List.{List}
 use mathlib.Core.Path.{_≡_, refl, ap, ap₂, _∙_}
 use native.Mathlib.Decide.{ℕ-discrete}
 use native.Mathlib.Numerals.{add-one}
@@ -12,9 +12,8 @@ use native.Mathlib.Omega.{arith}
 use Rattle.limits.specs.Limits.{mostTanks}
 use Rattle.integers.specs.TableLaws.{getD-filled}
 use Rattle.fractions.specs.GreatestLaws.{first-greatest-cong, first-greatest-below}
-use Rattle.judge.specs.Judgement.{rowMet, factor, noFactor, orElse, firstNot, firstUnmet, deciding, residualVector, reachVector, judgement, measurement, decidingPlace, concluded}
-use Rattle.judge.specs.System.{System, Trial, system, row, residual, reach}
-use Rattle.judge.specs.declared.Measurement.{Measurement}
+use Rattle.judge.specs.Judgement.{measurementFrom, judgementFrom, rowMet, factor, noFactor, orElse, firstNot, firstUnmet, deciding, residualVector, reachVector, judgement, measurement, decidingPlace, concluded}
+use Rattle.judge.specs.System.{System, Trial, row, residual, reach}
 
 module _ (p : ℕ → Bool) where
   -- ---- a loop's turn
@@ -108,7 +107,7 @@ module _ (s : System) (t : Trial) (h : s .n ≤ mostTanks) where
   -- the measurement, from residuals and reaches in eight places
   pub measurement-by-parts : (u : ℕ) (R : List ℤ) (T : List ℕ) → R ≡ residualVector s t → T ≡ reachVector s t
       → u ≡ firstNot (λ i. rowMet (getD R i (pos 0)) (getD T i 0)) (s .n)
-      → record { unmet = u; residuals = R; reaches = T } ≡ measurement s t
+      → measurementFrom u R T ≡ measurement s t
   measurement-by-parts u R T eR eT eu = let u′ : u ≡ firstUnmet s t = (rw (eR, eT) at eu) ∙ unmet-is in rw (eR, eT, u′)
 
   -- the row that decides in the judgement is the one that the rows themselves say
@@ -121,19 +120,12 @@ pub judgement-concluded : (s : System) (t : Trial) → concluded (s .n) (measure
 unfolding judgement
 judgement-concluded s t = refl
 
--- the measurement, from residuals and reaches that were formed each from its own part of the system
-pub measured-by-parts : (n : ℕ) (A : List ℤ) (E : List ℕ) (b : List ℤ) (f : List ℕ) (t : Trial) → n ≤ mostTanks → (u : ℕ) (R : List ℤ) (T : List ℕ)
-    → R ≡ residualVector (system n A [] b []) t → T ≡ reachVector (system n [] E [] f) t → u ≡ firstNot (λ i. rowMet (getD R i (pos 0)) (getD T i 0)) n
-    → record { unmet = u; residuals = R; reaches = T } ≡ measurement (system n A E b f) t
-unfolding residual reach
-measured-by-parts n A E b f t h u R T eR eT eu = measurement-by-parts (system n A E b f) t h u R T eR eT eu
-
 -- what is concluded, from the place that decides
-pub conclusion : (n : ℕ) (p : Measurement) (at : ℕ) (none : Bool) → at ≡ decidingPlace n p
-    → none ≡ noFactor (getD (p .residuals) at (pos 0)) (getD (p .reaches) at 0)
-    → record { met = eqb (p .unmet) 0; unmet = p .unmet; none = none; decides = at + 1; residuals = p .residuals; reaches = p .reaches } ≡ concluded n p
+pub conclusion : (n u : ℕ) (R : List ℤ) (T : List ℕ) (at : ℕ) (none : Bool) → at ≡ decidingPlace n (measurementFrom u R T)
+    → none ≡ noFactor (getD R at (pos 0)) (getD T at 0)
+    → judgementFrom (record { met = eqb u 0; unmet = u; none = none; decides = at + 1 }) R T ≡ concluded n (measurementFrom u R T)
 unfolding concluded
-conclusion n p at none ea en = rw (en, ea, add-one (decidingPlace n p))
+conclusion n u R T at none ea en = rw (en, ea, add-one (decidingPlace n (measurementFrom u R T)))
 
 -- a trial is met exactly if no row of its measurement is unmet
 pub met-is : (s : System) (t : Trial) → judgement s t .met ≡ eqb (measurement s t .unmet) 0

@@ -1,6 +1,7 @@
 pub mod System
 pub mod Perturbation
 pub mod Judgement
+pub mod Magnitudes
 pub mod Laws
 pub mod ZeroTrial
 pub mod Sizes
@@ -9,4 +10,5 @@ pub mod Finding
 pub mod Agreement
 pub mod Theorem
 pub mod Places
+pub mod RunningSums
 pub mod SameFigures

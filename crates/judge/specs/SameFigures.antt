@@ -7,7 +7,7 @@ use mathlib.Core.Path.{_≡_, ap}
 use Rattle.limits.specs.Limits.{mostTanks}
 use Rattle.rows.specs.Block.{Block}
 use Rattle.integers.specs.Tables.{filled}
-use Rattle.judge.specs.Judgement.{rowMet, firstNot, firstUnmet, measurement, concluded, judgement}
+use Rattle.judge.specs.Judgement.{measurementFrom, rowMet, firstNot, firstUnmet, measurement, concluded, judgement}
 use Rattle.judge.specs.System.{Row, Trial, System, residual, reach, row}
 
 -- two lists of rows that hold the same figures at every place
@@ -37,11 +37,10 @@ module _ (n : ℕ) (x y : Block) (h : SameFigures x y) where
   unfolding firstUnmet
   same-measurement t =
       ap (λ (r : ℕ → Row).
-      record {
-        unmet = firstNot (λ i. rowMet (residual (r i) t) (reach (r i) t)) n;
-        residuals = filled mostTanks n (pos 0) (λ i. residual (r i) t);
-        reaches = filled mostTanks n 0 (λ i. reach (r i) t);
-      })
+      measurementFrom
+      (firstNot (λ i. rowMet (residual (r i) t) (reach (r i) t)) n)
+      (filled mostTanks n (pos 0) (λ i. residual (r i) t))
+      (filled mostTanks n 0 (λ i. reach (r i) t)))
       same-rows
 
   pub same-judgement : (t : Trial) → judgement s t ≡ judgement s′ t

@@ -8,6 +8,7 @@ use mathlib.Core.List.{List}
 use Rattle.limits.specs.Limits.{mostTanks}
 use Rattle.rows.specs.Block.{Block, block}
 use Rattle.integers.specs.Sums.{sum, total}
+use Rattle.integers.specs.Tables.{filled}
 
 -- A row: Σ A(j) x(j) = b, where A(j) is known within ± E(j) and b within ± f.
 pub record Row : Type 0 where
@@ -38,15 +39,13 @@ pub record System : Type 0 where
 abbrev pub system : ℕ → List ℤ → List ℕ → List ℤ → List ℕ → System
 system n A E b f = record { n = n; rows = block A E b f }
 
+-- the row whose coefficients and tolerances stand in two lists from a place on
+abbrev pub rowFrom : ℕ → List ℤ → List ℕ → ℤ → ℕ → Row
+rowFrom from A E b f = record { A = λ j. getD A (from + j) (pos 0); E = λ j. getD E (from + j) 0; b = b; f = f }
+
 -- row i, counted from 0
 abbrev pub row : System → ℕ → Row
-row s i =
-    record {
-      A = λ j. getD (s .rows .A) (i * s .n + j) (pos 0);
-      E = λ j. getD (s .rows .E) (i * s .n + j) 0;
-      b = getD (s .rows .b) i (pos 0);
-      f = getD (s .rows .f) i 0;
-    }
+row s i = rowFrom (i * s .n) (s .rows .A) (s .rows .E) (getD (s .rows .b) i (pos 0)) (getD (s .rows .f) i 0)
 
 -- the figures Y of a list, over n tanks and the scale D
 abbrev pub trial : ℕ → ℕ → List ℤ → Trial
@@ -55,3 +54,7 @@ trial n D Y = record { n = n; D = D; Y = λ j. getD Y j (pos 0) }
 -- the trial whose figures are all zero
 abbrev pub zeroTrial : ℕ → ℕ → Trial
 zeroTrial n D = trial n D (replicate mostTanks (pos 0))
+
+-- D b of each row in eight places: the zero trial's residuals, by `zero-residuals` in ZeroTrial
+abbrev pub scaledRightSides : ℕ → ℕ → List ℤ → List ℤ
+scaledRightSides n D b = filled mostTanks n (pos 0) (λ i. pos D *ℤ getD b i (pos 0))

@@ -1,26 +1,19 @@
 // The judgement of a trial answer, exactly, by the theorem of Oettli and Prager.
-ghost use Prim.Native.Nat.{_+_, _*_, _^_, _≤_, _<_};
-ghost use lib.IntN.{ℤ, pos, natAbs, _-ℤ_, _*ℤ_};
+ghost use Prim.Native.Nat.{ℕ, _+_, _*_, _^_, _≤_, _<_};
+ghost use lib.IntN.{pos, natAbs};
 ghost use lib.ListN.{getD};
-ghost use mathlib.Core.List.{[]};
 ghost use mathlib.Core.Path.{_≡_};
 ghost use Rattle.limits.specs.Limits.{mostTanks, mostCoefficients};
-ghost use Rattle.integers.specs.Sums.{sum, total};
+ghost use Rattle.integers.specs.Tables.{filled};
 ghost use Rattle.fractions.specs.Fraction.{order};
 ghost use Rattle.fractions.specs.Greatest.{isGreater, firstGreatest};
-ghost use Rattle.judge.specs.Judgement.{scaledRightSides, scaledRightTolerances};
-ghost use Rattle.judge.specs.Judgement.{rowMet, factor, noFactor, firstNot, residualVector as residualsOf, reachVector as reachesOf, judgement, measurement, concluded};
-ghost use Rattle.judge.specs.System.{system, trial as trialOf};
+ghost use Rattle.judge.specs.Judgement.{rowMet, factor, noFactor, firstNot, measurementFrom, judgementFrom, measurement, concluded, judgement};
+ghost use Rattle.judge.specs.Magnitudes.{Magnitudes};
+ghost use Rattle.judge.specs.System.{residual as residualOf, reach as reachOf, rowFrom, system, trial as trialOf};
 use integers::magnitude;
+use integers::scaled;
 use limits::MOST_COEFFICIENTS;
 use limits::MOST_TANKS;
-
-// D b of one row.
-fn scaled_side(scale: u16, right_side: i32) -> i64
-    ensures { λ r. ⌜ (r ≡ pos scale *ℤ «right_side») × (natAbs r ≤ 2 ^ 47) ⌝ }
-{
-    (scale as i64) * (right_side as i64)
-}
 
 // D f of one row.
 fn scaled_tolerance(scale: u16, right_tolerance: u32) -> u64
@@ -29,95 +22,74 @@ fn scaled_tolerance(scale: u16, right_tolerance: u32) -> u64
     (scale as u64) * (right_tolerance as u64)
 }
 
-// R = D b − Σ A Y of the row whose coefficients start at `from`, the sum formed tank by tank from the first.
-fn row_residual<'a>(
-    n: usize,
-    from: usize,
-    scale: u16,
-    coefficients: &'a [i16; MOST_COEFFICIENTS],
-    right_side: i32,
-    trial: &'a [i32; MOST_TANKS],
-) -> i64
-    requires { ⌜ (n ≤ mostTanks) × (from + n ≤ mostCoefficients) ⌝ }
-    ensures { λ r. ⌜ r ≡ pos scale *ℤ «right_side» -ℤ sum n (λ j. getD (now (coefficients .entry)) (from + j) (pos 0) *ℤ getD (now (trial .entry)) j (pos 0)) ⌝ }
-{
-    let mut s: i64 = 0;
-    let mut j = 0;
-    while j < n {
-        let a = coefficients[from + j] as i64;
-        let y = trial[j] as i64;
-        s += a * y;
-        j += 1;
-    }
-    scaled_side(scale, right_side) - s
-}
-
 // E |Y| of one tank.
-fn weight(tolerance: u16, figure: i32) -> u64
-    ensures { λ r. ⌜ (r ≡ tolerance * natAbs figure) × (r ≤ 2 ^ 47) ⌝ }
+fn weight(tolerance: u16, absolute: u64) -> u64
+    requires { ⌜ absolute ≤ 2 ^ 31 ⌝ }
+    ensures { λ r. ⌜ (r ≡ tolerance * absolute) × (r ≤ 2 ^ 47) ⌝ }
 {
-    (tolerance as u64) * magnitude(figure as i64)
+    (tolerance as u64) * absolute
 }
 
-// T = D f + Σ E |Y| of the row whose tolerances start at `from`.
-fn row_reach<'a>(
+// The trial's n figures in 64 bits and their absolute values, 0 past the last: formed once, for all rows. Whatever the two lists held, they are
+// written whole.
+fn widen(
+    n: usize,
+    trial: &[i32; MOST_TANKS],
+    figures: &mut [i64; MOST_TANKS],
+    magnitudes: &mut [u64; MOST_TANKS],
+)
+    requires { ⌜ n ≤ mostTanks ⌝ }
+    ensures figures { λ r. ⌜ now (figures .exit) ≡ filled mostTanks n (pos 0) (λ j. getD (now (trial .entry)) j (pos 0)) ⌝ }
+    ensures magnitudes { λ r. ⌜ now (magnitudes .exit) ≡ filled mostTanks n 0 (λ j. natAbs (getD (now (trial .entry)) j (pos 0))) ⌝ }
+    ensures small { λ r. ⌜ ((j : ℕ) → j < n → natAbs (getD (now (trial .entry)) j (pos 0)) ≤ 2 ^ 31) ⌝ }
+{
+    *figures = [0i64; MOST_TANKS];
+    *magnitudes = [0u64; MOST_TANKS];
+    for j in 0..n {
+        let y = trial[j] as i64;
+        figures[j] = y;
+        magnitudes[j] = magnitude(y);
+    }
+}
+
+// What a trial leaves of one row.
+struct RowMeasurement {
+    residual: i64,
+    reach: u64,
+}
+
+// Residual and reach of the row whose coefficients and tolerances start at `from`, in one pass: both sums are formed tank by tank from the first.
+fn measure_row<'a>(
     n: usize,
     from: usize,
     scale: u16,
+    coefficients: &'a [i16; MOST_COEFFICIENTS],
     tolerances: &'a [u16; MOST_COEFFICIENTS],
+    right_side: i32,
     right_tolerance: u32,
-    trial: &'a [i32; MOST_TANKS],
-) -> u64
-    requires { ⌜ (n ≤ mostTanks) × (from + n ≤ mostCoefficients) ⌝ }
-    ensures { λ r. ⌜ r ≡ scale * «right_tolerance» + total n (λ j. getD (now (tolerances .entry)) (from + j) 0 * natAbs (getD (now (trial .entry)) j (pos 0))) ⌝ }
+    figures: &'a [i64; MOST_TANKS],
+    magnitudes: &'a [u64; MOST_TANKS],
+) -> RowMeasurement
+    requires { ⌜ (n ≤ mostTanks) × (from + n ≤ mostCoefficients) × Magnitudes n (now figures) (now magnitudes) ⌝ }
+    ensures residual { λ r. ⌜ r .residual ≡ residualOf (rowFrom from (now (coefficients .entry)) (now (tolerances .entry)) «right_side» «right_tolerance») (trialOf n scale (now (figures .entry))) ⌝ }
+    ensures reach { λ r. ⌜ r .reach ≡ reachOf (rowFrom from (now (coefficients .entry)) (now (tolerances .entry)) «right_side» «right_tolerance») (trialOf n scale (now (figures .entry))) ⌝ }
 {
-    let mut t: u64 = 0;
+    let mut products: i64 = 0;
+    let mut weights: u64 = 0;
     let mut j = 0;
     while j < n {
-        t += weight(tolerances[from + j], trial[j]);
+        products += (coefficients[from + j] as i64) * figures[j];
+        weights += weight(tolerances[from + j], magnitudes[j]);
         j += 1;
     }
-    scaled_tolerance(scale, right_tolerance) + t
-}
-
-// The residual of every row; 0 past the last. Whatever the list held, it is written whole.
-pub fn fill_residuals<'a>(
-    n: usize,
-    scale: u16,
-    coefficients: &'a [i16; MOST_COEFFICIENTS],
-    right_sides: &'a [i32; MOST_TANKS],
-    trial: &'a [i32; MOST_TANKS],
-    residuals: &mut [i64; MOST_TANKS],
-)
-    requires { ⌜ n ≤ mostTanks ⌝ }
-    ensures { λ r. ⌜ now (residuals .exit) ≡ residualsOf (system n (now (coefficients .entry)) [] (now («right_sides» .entry)) []) (trialOf n scale (now (trial .entry))) ⌝ }
-{
-    *residuals = [0i64; MOST_TANKS];
-    for i in 0..n {
-        residuals[i] = row_residual(n, i * n, scale, coefficients, right_sides[i], trial);
-    }
-}
-
-// The reach of every row; 0 past the last. Whatever the list held, it is written whole.
-pub fn fill_reaches<'a>(
-    n: usize,
-    scale: u16,
-    tolerances: &'a [u16; MOST_COEFFICIENTS],
-    right_tolerances: &'a [u32; MOST_TANKS],
-    trial: &'a [i32; MOST_TANKS],
-    reaches: &mut [u64; MOST_TANKS],
-)
-    requires { ⌜ n ≤ mostTanks ⌝ }
-    ensures { λ r. ⌜ now (reaches .exit) ≡ reachesOf (system n [] (now (tolerances .entry)) [] (now («right_tolerances» .entry))) (trialOf n scale (now (trial .entry))) ⌝ }
-{
-    *reaches = [0u64; MOST_TANKS];
-    for i in 0..n {
-        reaches[i] = row_reach(n, i * n, scale, tolerances, right_tolerances[i], trial);
+    RowMeasurement {
+        residual: scaled(scale, right_side) - products,
+        reach: scaled_tolerance(scale, right_tolerance) + weights,
     }
 }
 
 // The first unmet row, counted from 1, or 0.
-pub fn first_beyond<'a>(
+fn first_unmet<'a>(
     n: usize,
     residuals: &'a [i64; MOST_TANKS],
     reaches: &'a [u64; MOST_TANKS],
@@ -133,6 +105,52 @@ pub fn first_beyond<'a>(
         i += 1;
     }
     0
+}
+
+// What a loading condition brings: the right-hand sides b of its rows, and their tolerances f.
+pub struct RightHandSide {
+    pub values: [i32; MOST_TANKS],
+    pub tolerances: [u32; MOST_TANKS],
+}
+
+// The measurement of a trial for n rows over n tanks: residual and reach of every row, 0 past the last, and the first unmet row, counted from 1,
+// or 0. Whatever the two lists held, they are written whole.
+pub fn measure<'a>(
+    n: usize,
+    scale: u16,
+    coefficients: &'a [i16; MOST_COEFFICIENTS],
+    tolerances: &'a [u16; MOST_COEFFICIENTS],
+    right_hand_side: RightHandSide,
+    trial: &'a [i32; MOST_TANKS],
+    residuals: &mut [i64; MOST_TANKS],
+    reaches: &mut [u64; MOST_TANKS],
+) -> usize
+    requires { ⌜ n ≤ mostTanks ⌝ }
+    ensures { λ r. ⌜ measurementFrom r (now (residuals .exit)) (now (reaches .exit)) ≡ measurement (system n (now (coefficients .entry)) (now (tolerances .entry)) («right_hand_side» .values) («right_hand_side» .tolerances)) (trialOf n scale (now (trial .entry))) ⌝ }
+{
+    *residuals = [0i64; MOST_TANKS];
+    *reaches = [0u64; MOST_TANKS];
+    let mut figures = [0i64; MOST_TANKS];
+    let mut magnitudes = [0u64; MOST_TANKS];
+    widen(n, trial, &mut figures, &mut magnitudes);
+    for i in 0..n {
+        let row = measure_row(
+            n,
+            i * n,
+            scale,
+            coefficients,
+            tolerances,
+            right_hand_side.values[i],
+            right_hand_side.tolerances[i],
+            &figures,
+            &magnitudes,
+        );
+        // a signed field is stored from a local
+        let residual = row.residual;
+        residuals[i] = residual;
+        reaches[i] = row.reach;
+    }
+    first_unmet(n, residuals, reaches)
 }
 
 // Whether a row has no factor: a residual, and no reach.
@@ -173,114 +191,58 @@ fn greatest_factor<'a>(
     best
 }
 
-// What a trial leaves of each row. Rows are counted from 1.
-pub struct Measurement {
-    // the first unmet row, or 0 where every row is met
-    pub unmet: usize,
-    // residual and reach of each row, 0 past the last row
-    pub residuals: [i64; MOST_TANKS],
-    pub reaches: [u64; MOST_TANKS],
-}
-
-// D b of every row: the residuals of the zero trial; 0 past the last. Whatever the list held, it is written whole.
-pub fn fill_scaled_sides(
-    n: usize,
-    scale: u16,
-    right_sides: &[i32; MOST_TANKS],
-    residuals: &mut [i64; MOST_TANKS],
-)
-    requires { ⌜ n ≤ mostTanks ⌝ }
-    ensures { λ r. ⌜ now (residuals .exit) ≡ scaledRightSides n scale (now («right_sides» .entry)) ⌝ }
-{
-    *residuals = [0i64; MOST_TANKS];
-    for i in 0..n {
-        residuals[i] = scaled_side(scale, right_sides[i]);
-    }
-}
-
-// D f of every row: the reaches of the zero trial; 0 past the last. Whatever the list held, it is written whole.
-pub fn fill_scaled_tolerances(
-    n: usize,
-    scale: u16,
-    right_tolerances: &[u32; MOST_TANKS],
-    reaches: &mut [u64; MOST_TANKS],
-)
-    requires { ⌜ n ≤ mostTanks ⌝ }
-    ensures { λ r. ⌜ now (reaches .exit) ≡ scaledRightTolerances n scale (now («right_tolerances» .entry)) ⌝ }
-{
-    *reaches = [0u64; MOST_TANKS];
-    for i in 0..n {
-        reaches[i] = scaled_tolerance(scale, right_tolerances[i]);
-    }
-}
-
-// What is said of a trial. Rows are counted from 1.
-pub struct Judgement {
-    // residual and reach of each row, 0 past the last row
-    pub residuals: [i64; MOST_TANKS],
-    pub reaches: [u64; MOST_TANKS],
-    // the first row that is not met, or 0, and the row that decides
-    pub unmet: usize,
-    pub decides: usize,
-    // whether every row is met, and whether some row has no factor
+// What is said of a trial besides the residuals and reaches of its rows. Rows are counted from 1.
+pub struct Conclusion {
+    // whether every row is met, and the first that is not, or 0
     pub met: bool,
+    pub unmet: usize,
+    // whether some row has no factor, and the row that decides
     pub none: bool,
+    pub decides: usize,
 }
 
 // The judgement of n rows, from what a trial leaves of them.
-pub fn conclude(n: usize, measurement: Measurement) -> Judgement
+pub fn conclude<'a>(
+    n: usize,
+    unmet: usize,
+    residuals: &'a [i64; MOST_TANKS],
+    reaches: &'a [u64; MOST_TANKS],
+) -> Conclusion
     requires { ⌜ n ≤ mostTanks ⌝ }
-    ensures { λ r. ⌜ r ≡ concluded n measurement ⌝ }
+    ensures { λ r. ⌜ judgementFrom r (now (residuals .entry)) (now (reaches .entry)) ≡ concluded n (measurementFrom unmet (now (residuals .entry)) (now (reaches .entry))) ⌝ }
 {
-    let at = greatest_factor(n, &measurement.residuals, &measurement.reaches);
-    let none = lacks_factor(measurement.residuals[at], measurement.reaches[at]);
-    let residuals = measurement.residuals;
-    let reaches = measurement.reaches;
-    Judgement {
-        met: measurement.unmet == 0,
-        unmet: measurement.unmet,
-        none,
+    let at = greatest_factor(n, residuals, reaches);
+    Conclusion {
+        met: unmet == 0,
+        unmet,
+        none: lacks_factor(residuals[at], reaches[at]),
         decides: at + 1,
-        residuals,
-        reaches,
     }
 }
 
-// The judgement of a trial for n rows over n tanks, whoever proposed it.
+// The judgement of a trial for n rows over n tanks, whoever proposed it. Whatever the two lists held, they are written whole.
 pub fn judge<'a>(
     n: usize,
     scale: u16,
     coefficients: &'a [i16; MOST_COEFFICIENTS],
     tolerances: &'a [u16; MOST_COEFFICIENTS],
-    right_sides: &'a [i32; MOST_TANKS],
-    right_tolerances: &'a [u32; MOST_TANKS],
+    right_hand_side: RightHandSide,
     trial: &'a [i32; MOST_TANKS],
-) -> Judgement
+    residuals: &mut [i64; MOST_TANKS],
+    reaches: &mut [u64; MOST_TANKS],
+) -> Conclusion
     requires { ⌜ n ≤ mostTanks ⌝ }
-    ensures { λ r. ⌜ r ≡ judgement (system n (now (coefficients .entry)) (now (tolerances .entry)) (now («right_sides» .entry)) (now («right_tolerances» .entry))) (trialOf n scale (now (trial .entry))) ⌝ }
+    ensures { λ r. ⌜ judgementFrom r (now (residuals .exit)) (now (reaches .exit)) ≡ judgement (system n (now (coefficients .entry)) (now (tolerances .entry)) («right_hand_side» .values) («right_hand_side» .tolerances)) (trialOf n scale (now (trial .entry))) ⌝ }
 {
-    let mut measurement = Measurement {
-        unmet: 0,
-        residuals: [0i64; MOST_TANKS],
-        reaches: [0u64; MOST_TANKS],
-    };
-    fill_residuals(
+    let unmet = measure(
         n,
         scale,
         coefficients,
-        right_sides,
-        trial,
-        &mut measurement.residuals,
-    );
-    fill_reaches(
-        n,
-        scale,
         tolerances,
-        right_tolerances,
+        right_hand_side,
         trial,
-        &mut measurement.reaches,
+        residuals,
+        reaches,
     );
-    let unmet = first_beyond(n, &measurement.residuals, &measurement.reaches);
-    measurement.unmet = unmet;
-    conclude(n, measurement)
+    conclude(n, unmet, residuals, reaches)
 }

@@ -1,4 +1,4 @@
--- How long a record's parts are, where its fields end, and a field whose value begins with a flag, stored. Assumes nothing.
+-- How long the parts of a condition and a record are, where the fields end, and a field whose value begins with a flag, stored. Assumes nothing.
 use Prim.Native.Nat.{ℕ, _+_, _≤_}
 use lib.IntN.{ℤ, pos}
 use lib.ListN.{length, getD, length-append}
@@ -10,12 +10,12 @@ use native.Mathlib.Omega.{arith}
 use Rattle.limits.specs.Limits.{mostTanks}
 use Rattle.buffer.specs.Buffer.{onto, run}
 use Rattle.buffer.specs.RunLaws.{length-run}
-use Rattle.judge.specs.declared.Judgement.{Judgement}
+use Rattle.judge.specs.Judgement.{Judgement}
 use Rattle.figures.specs.FigureLaws.{length-figure}
 use Rattle.figures.specs.Figures.{i32Kind, i64Kind, u64Kind, figureBytes}
 use Rattle.fields.specs.Field.{headerSize, header, field, endTag, endField}
 use Rattle.fields.specs.FieldLaws.{length-field, field-stored}
-use Rattle.recordfile.specs.Layout.{answerLength, pairSize, rowsLength, answerAt, recordRowsAt, factorAt, recordEndAt, verdictTag, answerTag, rowsTag, factorTag, flag, answerBytes, pairAt, verdictField, answerField, rowsField, factorField, recordOf, recordLength, longestRecord}
+use Rattle.recordfile.specs.Layout.{answerLength, pairSize, rowsLength, answerAt, conditionRowsAt, factorAt, conditionLength, verdictTag, answerTag, rowsTag, factorTag, flag, answerBytes, pairAt, verdictField, answerField, rowsField, factorField, conditionFields, recordOf, recordLength, longestRecord}
 
 pub length-answer : (Y : List ℤ) (j : ℕ) → length (answerBytes Y j) ≡ i32Kind .width
 length-answer Y j = length-figure i32Kind (getD Y j (pos 0))
@@ -35,13 +35,12 @@ length-pairs n R T = length-run pairSize (pairAt R T) (length-pair R T) n
 -- ---- the fields one behind the other
 
 module _ (n rounds : ℕ) (Y : List ℤ) (j : Judgement) where
-  -- each ends where the next begins, and the last with the record
+  -- each ends where the next begins, and the last with the condition
   pub record Ends : Type 0 where
     pub verdict : length (verdictField (j .met) (j .unmet) rounds) ≡ answerAt
-    pub answer : answerAt + length (answerField n Y) ≡ recordRowsAt n
-    pub rows : recordRowsAt n + length (rowsField n (j .residuals) (j .reaches)) ≡ factorAt n
-    pub factor : factorAt n + length (factorField (j .none) (j .decides)) ≡ recordEndAt n
-    pub end : recordEndAt n + length endField ≡ recordLength n
+    pub answer : answerAt + length (answerField n Y) ≡ conditionRowsAt n
+    pub rows : conditionRowsAt n + length (rowsField n (j .residuals) (j .reaches)) ≡ factorAt n
+    pub factor : factorAt n + length (factorField (j .none) (j .decides)) ≡ conditionLength n
 
   pub ends : Ends
   ends =
@@ -52,13 +51,16 @@ module _ (n rounds : ℕ) (Y : List ℤ) (j : Judgement) where
         answer = omega (arith, length-field answerTag (run n (answerBytes Y)), length-answers n Y);
         rows = omega (arith, length-field rowsTag (run n (pairAt R T)), length-pairs n R T);
         factor = omega (arith, length-field factorTag (flag (j .none) ∷ j .decides ∷ []));
-        end = omega (arith, length-field endTag []);
       }
+
+  pub length-condition : length (conditionFields n rounds Y j) ≡ conditionLength n
+  unfolding conditionFields
+  length-condition = simp length-append (omega (arith, ends))
 
   -- "It has 20 + 20n bytes, at most 180"
   pub length-record : length (recordOf n rounds Y j) ≡ recordLength n
   unfolding recordOf
-  length-record = simp length-append (omega (arith, ends))
+  length-record = omega (arith, length-append (conditionFields n rounds Y j) endField, length-condition, length-field endTag [])
 
 pub longest-record : (n : ℕ) → n ≤ mostTanks → recordLength n ≤ longestRecord
 longest-record n h = omega arith

@@ -1,5 +1,6 @@
 -- Definitions only.
--- The bytes of a record: document 01, "A record is".
+-- The bytes of a record: document 01, "A record is". The fields 10 to 13 are those of one condition, and their places are counted from where they
+-- begin.
 use Prim.Native.Nat.{ℕ, _+_, _*_, _≤_, _<_}
 use lib.IntN.{ℤ, pos}
 use lib.ListN.{getD}
@@ -8,10 +9,10 @@ use mathlib.Core.List.{List, [], _∷_, _++_}
 use mathlib.Core.Path.{_≡_}
 use Rattle.limits.specs.Limits.{mostTanks}
 use Rattle.buffer.specs.Buffer.{run, concat}
-use Rattle.judge.specs.declared.Judgement.{Judgement}
+use Rattle.judge.specs.Judgement.{Judgement}
 use Rattle.figures.specs.Figures.{i32Kind, i64Kind, u64Kind, figureBytes}
 use Rattle.fields.specs.Field.{headerSize, field, endField}
-use Rattle.recordfile.specs.declared.RecordPlaces.{RecordPlaces}
+use Rattle.recordfile.specs.declared.ConditionPlaces.{ConditionPlaces}
 
 -- the tags 10, 11, 12 and 13, hexadecimal
 abbrev pub verdictTag : ℕ
@@ -46,7 +47,7 @@ rowsLength n = pairSize * n
 abbrev pub factorLength : ℕ
 factorLength = 2
 
--- where the parts of field 10 stand, which begins at 0
+-- where the parts of field 10 stand, with which a condition's fields begin
 abbrev pub metAt : ℕ
 metAt = headerSize
 
@@ -60,22 +61,23 @@ roundsAt = unmetAt + 1
 abbrev pub answerAt : ℕ
 answerAt = headerSize + verdictLength
 
-abbrev pub recordRowsAt : ℕ → ℕ
-recordRowsAt n = answerAt + headerSize + answerLength n
+abbrev pub conditionRowsAt : ℕ → ℕ
+conditionRowsAt n = answerAt + headerSize + answerLength n
 
 abbrev pub factorAt : ℕ → ℕ
-factorAt n = recordRowsAt n + headerSize + rowsLength n
+factorAt n = conditionRowsAt n + headerSize + rowsLength n
 
-abbrev pub recordEndAt : ℕ → ℕ
-recordEndAt n = factorAt n + headerSize + factorLength
+-- how long the fields 10 to 13 are together: where the end field begins
+abbrev pub conditionLength : ℕ → ℕ
+conditionLength n = factorAt n + headerSize + factorLength
 
--- the lengths and places of a record of n figures and rows, as the program holds them
-pub record RecordPlaced (n : ℕ) (r : RecordPlaces) : Type 0 where
+-- the lengths and places of the fields of a condition with n figures and rows, as the program holds them
+pub record ConditionPlaced (n : ℕ) (r : ConditionPlaces) : Type 0 where
   pub answer-len : r .«answer_len» ≡ answerLength n
-  pub rows : r .rows ≡ recordRowsAt n
+  pub rows : r .rows ≡ conditionRowsAt n
   pub rows-len : r .«rows_len» ≡ rowsLength n
   pub factor : r .factor ≡ factorAt n
-  pub end : r .end ≡ recordEndAt n
+  pub len : r .len ≡ conditionLength n
 
 -- where the parts of field 13 stand
 abbrev pub noneAt : ℕ → ℕ
@@ -113,16 +115,19 @@ rowsField n R T = field rowsTag (run n (pairAt R T))
 abbrev pub factorField : Bool → ℕ → List ℕ
 factorField none decides = field factorTag (flag none ∷ decides ∷ [])
 
--- "A record is": the fields of an answer of n figures, the rounds used and its judgement, in this order
-unfoldable pub recordOf : ℕ → ℕ → List ℤ → Judgement → List ℕ
-recordOf n rounds Y j =
+-- the fields 10 to 13 of one condition, in this order: an answer of n figures, the rounds used and its judgement
+unfoldable pub conditionFields : ℕ → ℕ → List ℤ → Judgement → List ℕ
+conditionFields n rounds Y j =
     concat
     (verdictField (j .met) (j .unmet) rounds
     ∷ answerField n Y
     ∷ rowsField n (j .residuals) (j .reaches)
     ∷ factorField (j .none) (j .decides)
-    ∷ endField
     ∷ [])
+
+-- "A record is": those fields, and "FF, length 0"
+unfoldable pub recordOf : ℕ → ℕ → List ℤ → Judgement → List ℕ
+recordOf n rounds Y j = conditionFields n rounds Y j ++ endField
 
 -- "It has 20 + 20n bytes, at most 180"
 abbrev pub recordLength : ℕ → ℕ
@@ -131,10 +136,18 @@ recordLength n = 20 + 20 * n
 abbrev pub longestRecord : ℕ
 longestRecord = 180
 
--- what the writer of a record asks: at most 8 rows, rows and rounds of a byte each, and room
-pub record RecordFits (n rounds : ℕ) (j : Judgement) (room : ℕ) : Type 0 where
+-- what the writers ask of the figures: at most 8 rows, and the rounds, the unmet row and the row that decides of a byte each
+pub record Recordable (n rounds : ℕ) (j : Judgement) : Type 0 where
   pub rows : n ≤ mostTanks
   pub rounds-byte : rounds < 256
   pub unmet-byte : j .unmet < 256
   pub decides-byte : j .decides < 256
+
+-- and room: for a condition's fields, and for a record
+pub record ConditionFits (n rounds : ℕ) (j : Judgement) (room : ℕ) : Type 0 where
+  pub figures : Recordable n rounds j
+  pub enough : conditionLength n ≤ room
+
+pub record RecordFits (n rounds : ℕ) (j : Judgement) (room : ℕ) : Type 0 where
+  pub figures : Recordable n rounds j
   pub enough : recordLength n ≤ room

@@ -1,13 +1,15 @@
 // The record of a judged answer, as bytes.
-ghost use Prim.Native.Nat.{_+_, _≤_};
+ghost use Prim.Native.Nat.{_+_, _≤_, _<_};
 ghost use lib.ListN.{length};
 ghost use mathlib.Core.Path.{_≡_};
 ghost use Rattle.limits.specs.Limits.{mostTanks};
 ghost use Rattle.buffer.specs.Buffer.{onto, Wrote, run};
+ghost use Rattle.judge.specs.Judgement.{judgementFrom};
 ghost use Rattle.fields.specs.Field.{headerSize};
-ghost use Rattle.recordfile.specs.Layout.{answerLength, rowsLength, factorLength, answerAt, RecordPlaced, flag as flagOf, pair, pairAt, pairSize, verdictField, answerField, rowsField, factorField, recordOf, RecordFits};
+ghost use Rattle.recordfile.specs.Layout.{answerLength, rowsLength, factorLength, answerAt, ConditionPlaced, flag as flagOf, pairAt, pairSize, verdictField, answerField, rowsField, factorField};
+ghost use Rattle.recordfile.specs.Layout.{conditionFields, recordOf, ConditionFits, RecordFits};
 use fields::HEADER_SIZE;
-use judge::Judgement;
+use judge::Conclusion;
 use limits::MOST_TANKS;
 
 // Document 01, "Layout of case and record".
@@ -45,30 +47,31 @@ const FACTOR_LENGTH: u16 = 2;
 // Where the answer's field begins, behind the verdict's.
 const ANSWER_AT: usize = HEADER_SIZE + VERDICT_LENGTH as usize;
 
-// The lengths and places of a record of n figures and rows.
-struct RecordPlaces {
+// The lengths and places of the fields of a condition with n figures and rows.
+struct ConditionPlaces {
     answer_len: usize,
     rows: usize,
     rows_len: usize,
     factor: usize,
-    end: usize,
+    len: usize,
 }
 
-// How long the values of the answer and the rows are, and where the fields of the rows, the factor and the end begin, each behind the one before it.
-fn record_places(n: usize) -> RecordPlaces
+// How long the values of the answer and the rows are, where the fields of the rows and the factor begin, each behind the one before it, and how long
+// all are.
+fn condition_places(n: usize) -> ConditionPlaces
     requires { ⌜ n ≤ mostTanks ⌝ }
-    ensures { λ r. ⌜ RecordPlaced n r ⌝ }
+    ensures { λ r. ⌜ ConditionPlaced n r ⌝ }
 {
     let answer_len = bigendian::SIZE_32 * n;
     let rows = ANSWER_AT + HEADER_SIZE + answer_len;
     let rows_len = PAIR_SIZE * n;
     let factor = rows + HEADER_SIZE + rows_len;
-    RecordPlaces {
+    ConditionPlaces {
         answer_len,
         rows,
         rows_len,
         factor,
-        end: factor + HEADER_SIZE + FACTOR_LENGTH as usize,
+        len: factor + HEADER_SIZE + FACTOR_LENGTH as usize,
     }
 }
 
@@ -90,13 +93,18 @@ fn write_verdict(met: bool, unmet: u8, rounds: u8, out: &mut [u8])
     out[ROUNDS_AT] = rounds;
 }
 
-// A row's residual and reach, over the front of that row's bytes.
-fn write_pair(residual: i64, reach: u64, out: &mut [u8])
-    requires { ⌜ pairSize ≤ length (now out) ⌝ }
-    ensures { λ _. ⌜ now (out .exit) ≡ onto (pair residual reach) (now (out .entry)) ⌝ }
+// Row i's residual and reach, over the front of that row's bytes. The reach is loaded once the residual is written: both loaded first are slower.
+fn write_pair<'a>(
+    i: usize,
+    residuals: &'a [i64; MOST_TANKS],
+    reaches: &'a [u64; MOST_TANKS],
+    out: &mut [u8],
+)
+    requires { ⌜ (i < mostTanks) × (pairSize ≤ length (now out)) ⌝ }
+    ensures { λ _. ⌜ now (out .exit) ≡ onto (pairAt (now (residuals .entry)) (now (reaches .entry)) i) (now (out .entry)) ⌝ }
 {
-    bigendian::write_i64(residual, out);
-    bigendian::write_u64(reach, &mut out[REACH_AT..]);
+    bigendian::write_i64(residuals[i], out);
+    bigendian::write_u64(reaches[i], &mut out[REACH_AT..]);
 }
 
 // The pairs of n rows, each lent its part of out.
@@ -112,7 +120,7 @@ fn write_pairs<'a>(
     let mut i = 0;
     let mut at = 0;
     while i < n {
-        write_pair(residuals[i], reaches[i], &mut out[at..]);
+        write_pair(i, residuals, reaches, &mut out[at..]);
         i += 1;
         at += PAIR_SIZE;
     }
@@ -134,7 +142,7 @@ fn write_answer(n: usize, answer: &[i32], out: &mut [u8])
     requires { ⌜ (n ≤ mostTanks) × ((n ≤ length (now answer)) × (headerSize + answerLength n ≤ length (now out))) ⌝ }
     ensures { λ _. ⌜ now (out .exit) ≡ onto (answerField n (now (answer .entry))) (now (out .entry)) ⌝ }
 {
-    let places = record_places(n);
+    let places = condition_places(n);
     fields::write_header(ANSWER_TAG, places.answer_len as u16, out);
     figures::write_i32s(&answer[..n], &mut out[HEADER_SIZE..]);
 }
@@ -149,32 +157,54 @@ fn write_rows<'a>(
     requires { ⌜ (n ≤ mostTanks) × (headerSize + rowsLength n ≤ length (now out)) ⌝ }
     ensures { λ _. ⌜ now (out .exit) ≡ onto (rowsField n (now (residuals .entry)) (now (reaches .entry))) (now (out .entry)) ⌝ }
 {
-    let places = record_places(n);
+    let places = condition_places(n);
     fields::write_header(ROWS_TAG, places.rows_len as u16, out);
     write_pairs(n, residuals, reaches, &mut out[HEADER_SIZE..]);
 }
 
-// The whole record of an answer over the front of out: its first n figures, the rounds used, and its judgement. Bytes beyond it stay as they were.
-pub fn write_record(
+// The fields 10 to 13 of one condition, over the front of out: the first n figures of its answer, the rounds used, and what is concluded of them. The
+// length of the four fields is returned, and bytes beyond them stay as they were.
+pub fn write_condition<'a>(
     n: usize,
     rounds: usize,
-    answer: &[i32; MOST_TANKS],
-    judgement: Judgement,
+    conclusion: Conclusion,
+    answer: &'a [i32; MOST_TANKS],
+    residuals: &'a [i64; MOST_TANKS],
+    reaches: &'a [u64; MOST_TANKS],
     out: &mut [u8],
 ) -> usize
-    requires { ⌜ RecordFits n rounds judgement (length (now out)) ⌝ }
-    ensures { λ r. ⌜ Wrote (recordOf n rounds (now (answer .entry)) judgement) 0 (now (out .entry)) r (now (out .exit)) ⌝ }
+    requires { ⌜ ConditionFits n rounds (judgementFrom conclusion (now residuals) (now reaches)) (length (now out)) ⌝ }
+    ensures { λ r. ⌜ Wrote (conditionFields n rounds (now (answer .entry)) (judgementFrom conclusion (now (residuals .entry)) (now (reaches .entry)))) 0 (now (out .entry)) r (now (out .exit)) ⌝ }
 {
-    let places = record_places(n);
+    let places = condition_places(n);
     let rows = places.rows;
     let factor = places.factor;
-    let end = places.end;
-    let residuals = judgement.residuals;
-    let reaches = judgement.reaches;
-    write_verdict(judgement.met, judgement.unmet as u8, rounds as u8, out);
+    write_verdict(conclusion.met, conclusion.unmet as u8, rounds as u8, out);
     write_answer(n, answer, &mut out[ANSWER_AT..]);
-    write_rows(n, &residuals, &reaches, &mut out[rows..]);
-    write_factor(judgement.none, judgement.decides as u8, &mut out[factor..]);
+    write_rows(n, residuals, reaches, &mut out[rows..]);
+    write_factor(
+        conclusion.none,
+        conclusion.decides as u8,
+        &mut out[factor..],
+    );
+    places.len
+}
+
+// The whole record over the front of out: the fields of its condition, and the end field behind them. The record's length is returned, and bytes
+// beyond it stay as they were.
+pub fn write_record<'a>(
+    n: usize,
+    rounds: usize,
+    conclusion: Conclusion,
+    answer: &'a [i32; MOST_TANKS],
+    residuals: &'a [i64; MOST_TANKS],
+    reaches: &'a [u64; MOST_TANKS],
+    out: &mut [u8],
+) -> usize
+    requires { ⌜ RecordFits n rounds (judgementFrom conclusion (now residuals) (now reaches)) (length (now out)) ⌝ }
+    ensures { λ r. ⌜ Wrote (recordOf n rounds (now (answer .entry)) (judgementFrom conclusion (now (residuals .entry)) (now (reaches .entry)))) 0 (now (out .entry)) r (now (out .exit)) ⌝ }
+{
+    let end = write_condition(n, rounds, conclusion, answer, residuals, reaches, out);
     fields::write_end(&mut out[end..]);
     end + fields::END_SIZE
 }

@@ -4,7 +4,7 @@ use mathlib.Core.Bool.{true, false}
 use mathlib.Core.List.{[], _∷_, _++_}
 use mathlib.Core.Path.{_≡_, refl}
 use Rattle.buffer.specs.Buffer.{run}
-use Rattle.judge.specs.declared.Judgement.{Judgement}
+use Rattle.judge.specs.Judgement.{Judgement}
 use Rattle.decimal.specs.Decimal.{digitsWithin, decimalDigits, lastDigits, signedDecimal, fixedPoint, ascii}
 use Rattle.report.specs.Text.{report, text, refusalText, verdictLine, answerLine, rowLine, factorLine}
 

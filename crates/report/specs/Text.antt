@@ -1,5 +1,5 @@
 -- Definitions only.
--- What is printed of a judged case, and of a refusal, byte for byte: document 01's "Printed verdict".
+-- What is printed of a judged condition, and of a refusal, byte for byte: document 01's "Printed verdict".
 use Prim.Native.Nat.{ℕ, _+_, _*_, _≤_}
 use lib.IntN.{ℤ, pos}
 use lib.ListN.{getD, length}
@@ -8,10 +8,10 @@ use mathlib.Core.List.{List, [], _∷_, _++_}
 use Rattle.limits.specs.Limits.{mostTanks, mostExponent}
 use Rattle.buffer.specs.Buffer.{run, concat, Wrote}
 use Rattle.judge.specs.Finding.{Finding, finding}
-use Rattle.judge.specs.declared.Judgement.{Judgement}
+use Rattle.judge.specs.Judgement.{Judgement}
 use Rattle.decimal.specs.Decimal.{decimalDigits, signedDecimal, fixedPoint, ascii}
 
--- what is printed of a case: the answer's figures Y by tank, from 0, and what was found of it
+-- what is printed of a condition: the answer's figures Y by tank, from 0, and what was found of it
 pub record Report : Type 0 where
   pub n : ℕ
   pub exponent : ℕ
@@ -92,11 +92,11 @@ factorRoom = 37
 abbrev pub textRoom : ℕ
 textRoom = verdictRoom + (mostTanks * answerRoom + (mostTanks * rowRoom + factorRoom))
 
--- what the printing of a case asks: no more tanks and digits than a case has, and room
-pub record TextFits (n e room : ℕ) : Type 0 where
+-- what the printing of a condition from the place `at` on asks: no more tanks and digits than a case has, and room
+pub record TextFits (n e at room : ℕ) : Type 0 where
   pub tanks : n ≤ mostTanks
   pub exponent-small : e ≤ mostExponent
-  pub enough : textRoom ≤ room
+  pub enough : at + textRoom ≤ room
 
 -- a text was written, and it has at most `limit` bytes
 pub record WroteWithin (limit : ℕ) (text : List ℕ) (at : ℕ) (before : List ℕ) (next : ℕ) (after : List ℕ) : Type 0 where

@@ -1,17 +1,18 @@
-// The printed verdict: the lines of a judged case, or of a refusal, as bytes in a buffer.
+// The printed verdict: the lines of a judged condition, or of a refusal, as bytes in a buffer.
 ghost use Prim.Native.Nat.{_+_, _*_, _≤_, _<_};
 ghost use lib.IntN.{pos};
 ghost use lib.ListN.{length, getD};
 ghost use mathlib.Core.Bool.{cond};
 ghost use Rattle.limits.specs.Limits.{mostTanks, mostExponent};
 ghost use Rattle.buffer.specs.Buffer.{Room, Wrote};
+ghost use Rattle.judge.specs.Judgement.{judgementFrom};
 ghost use Rattle.report.specs.Text.{report, labelled, verdictLine, answerLine, rowLine, factorLine, answerLines, rowLines, verdictRoom, answerRoom, rowRoom, factorRoom, text, refusalText, TextFits};
 ghost use Rattle.report.specs.Text.{WroteWithin};
 use decimal::write_bytes;
 use decimal::write_fixed_point;
 use decimal::write_signed;
 use decimal::write_unsigned;
-use judge::Judgement;
+use judge::Conclusion;
 use limits::MOST_TANKS;
 
 // A buffer of this many bytes is enough for every report and every refusal.
@@ -120,34 +121,35 @@ fn write_answers(n: usize, e: usize, answer: &[i32; MOST_TANKS], at: usize, out:
     next
 }
 
-// Prints a judged case: its verdict and rounds used, every tank's answer, every row, the factor. The text stands at the front of out, the
-// rest of out is as it was, and the text's length is returned.
-pub fn render(
+// Prints one judged condition from the place `at` on: its verdict and rounds used, every tank's answer, every row, the factor. The rest of out is as it
+// was, and the place behind the text is returned.
+pub fn render<'a>(
     n: usize,
     e: usize,
     rounds: usize,
-    answer: &[i32; MOST_TANKS],
-    judgement: Judgement,
+    conclusion: Conclusion,
+    answer: &'a [i32; MOST_TANKS],
+    residuals: &'a [i64; MOST_TANKS],
+    reaches: &'a [u64; MOST_TANKS],
+    at: usize,
     out: &mut [u8],
 ) -> usize
-    requires { ⌜ TextFits n e (length (now out)) ⌝ }
-    ensures { λ r. ⌜ Wrote (text (report n e rounds (now (answer .entry)) judgement)) 0 (now (out .entry)) r (now (out .exit)) ⌝ }
+    requires { ⌜ TextFits n e at (length (now out)) ⌝ }
+    ensures { λ r. ⌜ Wrote (text (report n e rounds (now (answer .entry)) (judgementFrom conclusion (now (residuals .entry)) (now (reaches .entry))))) at (now (out .entry)) r (now (out .exit)) ⌝ }
 {
-    let residuals = judgement.residuals;
-    let reaches = judgement.reaches;
     let after_verdict = write_verdict_line(
-        judgement.met,
-        judgement.unmet as u64,
+        conclusion.met,
+        conclusion.unmet as u64,
         rounds as u64,
-        0,
+        at,
         out,
     );
     let after_answers = write_answers(n, e, answer, after_verdict, out);
-    let after_rows = write_rows(n, &residuals, &reaches, after_answers, out);
-    write_factor_line(judgement.none, judgement.decides as u64, after_rows, out)
+    let after_rows = write_rows(n, residuals, reaches, after_answers, out);
+    write_factor_line(conclusion.none, conclusion.decides as u64, after_rows, out)
 }
 
-// Prints a refusal, in the same way.
+// Prints a refusal at the front of out; the rest of out is as it was, and the text's length is returned.
 pub fn render_refusal(number: u8, out: &mut [u8]) -> usize
     requires { ⌜ Room (refusalText number) 0 (now out) ⌝ }
     ensures { λ r. ⌜ Wrote (refusalText number) 0 (now (out .entry)) r (now (out .exit)) ⌝ }

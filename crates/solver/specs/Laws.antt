@@ -1,23 +1,21 @@
 -- What the definitions of refinement do at a loop's turn, and what holds of the trials that they give. Assumes nothing.
 use Prim.Native.Nat.{ℕ, zero, suc, _+_, _-_, _<_, _≤_}
 use borrow.Author.Tests.{le-leb, lt-leb, leb-true}
-use lib.Dec.{leb}
+use lib.Dec.{leb, eqb}
 use lib.IntN.{ℤ, natAbs}
 use lib.ListN.{length, set, length-set}
-use mathlib.Core.Bool.{Bool, true, false, cond}
+use mathlib.Core.Bool.{Bool, true, false, true≢false, cond, _&&_}
 use mathlib.Core.List.{List}
 use mathlib.Core.Path.{_≡_, refl, sym, ap, _∙_}
 use native.Mathlib.Numerals.{add-one}
 use native.Mathlib.Omega.{arith}
 use Rattle.integers.specs.TableLaws.{within-set}
 use Rattle.integers.specs.Tables.{Within}
-use Rattle.judge.specs.Judgement.{measurement}
+use Rattle.judge.specs.Judgement.{Measurement, measurement}
 use Rattle.judge.specs.System.{System, trial}
-use Rattle.judge.specs.declared.Measurement.{Measurement}
 use Rattle.substitution.specs.Passes.{Corrections}
-use Rattle.solver.specs.Limits.{Measured}
-use Rattle.solver.specs.Refinement.{figureLimit, correctedFigure, Update, update, correctedFrom, corrected, orderedResiduals, substituted, updated, measuredProgress, refusedProgress, afterUpdate, round, ended, refined}
-use Rattle.solver.specs.declared.Progress.{Progress}
+use Rattle.solver.specs.Limits.{Resumable}
+use Rattle.solver.specs.Refinement.{figureLimit, correctedFigure, Update, update, correctedFrom, corrected, orderedResiduals, substituted, updated, Progress, start, measuredProgress, refusedProgress, afterUpdate, round, endedBy, ended, refined}
 
 -- ---- the update, at a loop's turn: the rest of the work from here is all of it
 
@@ -34,80 +32,63 @@ pub corrected-done : (d : List ℤ) (j n : ℕ) (Y : List ℤ) → n ≤ j → c
 unfolding correctedFrom
 corrected-done d j n Y h = let e : n - j ≡ 0 = omega arith in rw e
 
--- ---- every trial is within its limits
+-- ---- every trial is within its limits, and keeps its places
 
-kept-figures : (d : List ℤ) (j m : ℕ) (Y : List ℤ) → Within figureLimit Y → Within figureLimit (correctedFrom d j m Y .trial)
+-- from the trial Y to the next, Y′
+pub record Formed (Y Y′ : List ℤ) : Type 0 where
+  pub figures : Within figureLimit Y → Within figureLimit Y′
+  pub places : length Y′ ≡ length Y
+
+pub unchanged : (Y : List ℤ) → Formed Y Y
+unchanged Y = record { figures = λ h. h; places = refl }
+
+formed-from : (d : List ℤ) (j m : ℕ) (Y : List ℤ) → Formed Y (correctedFrom d j m Y .trial)
 unfolding correctedFrom
-kept-figures d j zero Y h = h
-kept-figures d j (suc m) Y h = go (leb (natAbs (correctedFigure Y d j)) figureLimit) refl (kept-figures d (j + 1) m (set Y j (correctedFigure Y d j)))
+formed-from d j zero Y = unchanged Y
+formed-from d j (suc m) Y = go (leb (natAbs (correctedFigure Y d j)) figureLimit) refl (formed-from d (j + 1) m (set Y j (correctedFigure Y d j)))
   where
     go : (t : Bool) → leb (natAbs (correctedFigure Y d j)) figureLimit ≡ t
-        → (Within figureLimit (set Y j (correctedFigure Y d j)) → Within figureLimit (correctedFrom d (j + 1) m (set Y j (correctedFigure Y d j)) .trial))
-        → Within figureLimit ((cond t (correctedFrom d (j + 1) m (set Y j (correctedFigure Y d j))) (update false Y)) .trial)
-    go true e r = r (within-set Y j (correctedFigure Y d j) (leb-true (natAbs (correctedFigure Y d j)) figureLimit e) h)
-    go false e r = h
+        → Formed (set Y j (correctedFigure Y d j)) (correctedFrom d (j + 1) m (set Y j (correctedFigure Y d j)) .trial)
+        → Formed Y ((cond t (correctedFrom d (j + 1) m (set Y j (correctedFigure Y d j))) (update false Y)) .trial)
+    go true e r =
+        record {
+          figures = λ h. r .figures (within-set Y j (correctedFigure Y d j) (leb-true (natAbs (correctedFigure Y d j)) figureLimit e) h);
+          places = r .places ∙ length-set Y j (correctedFigure Y d j);
+        }
+    go false e r = unchanged Y
 
-pub corrected-within : (n : ℕ) (Y : List ℤ) (d : Corrections) → Within figureLimit Y → Within figureLimit (corrected n Y d .trial)
-corrected-within n Y d h = go (d .within)
+formed : (n : ℕ) (Y : List ℤ) (d : Corrections) → Formed Y (corrected n Y d .trial)
+formed n Y d = go (d .within)
   where
-    go : (t : Bool) → Within figureLimit ((cond t (correctedFrom (d .values) 0 n Y) (update false Y)) .trial)
-    go true = kept-figures (d .values) 0 n Y h
-    go false = h
+    go : (t : Bool) → Formed Y ((cond t (correctedFrom (d .values) 0 n Y) (update false Y)) .trial)
+    go true = formed-from (d .values) 0 n Y
+    go false = unchanged Y
 
--- ---- and keeps its places
+-- ---- the end of the work
 
-kept-places : (d : List ℤ) (j m : ℕ) (Y : List ℤ) → length (correctedFrom d j m Y .trial) ≡ length Y
-unfolding correctedFrom
-kept-places d j zero Y = refl
-kept-places d j (suc m) Y = go (leb (natAbs (correctedFigure Y d j)) figureLimit) (kept-places d (j + 1) m (set Y j (correctedFigure Y d j)))
-  where
-    go : (t : Bool) → length (correctedFrom d (j + 1) m (set Y j (correctedFigure Y d j)) .trial) ≡ length (set Y j (correctedFigure Y d j))
-        → length ((cond t (correctedFrom d (j + 1) m (set Y j (correctedFigure Y d j))) (update false Y)) .trial) ≡ length Y
-    go true r = r ∙ length-set Y j (correctedFigure Y d j)
-    go false r = refl
+-- as code tests it, where the last round stayed within its limits
+pub ended-within : (k u : ℕ) → leb 1 k && eqb u 0 ≡ endedBy true k u
+ended-within zero u = refl
+ended-within (suc k) u = ap (λ (t : Bool). t && eqb u 0) (le-leb 1 (suc k) (omega arith))
 
-corrected-places : (n : ℕ) (Y : List ℤ) (d : Corrections) → length (corrected n Y d .trial) ≡ length Y
-corrected-places n Y d = go (d .within)
-  where
-    go : (t : Bool) → length ((cond t (correctedFrom (d .values) 0 n Y) (update false Y)) .trial) ≡ length Y
-    go true = kept-places (d .values) 0 n Y
-    go false = refl
+-- the start is no verdict: it ends nothing
+pub start-goes-on : (s : System) (D : ℕ) → ended (start s D) ≡ false
+start-goes-on s D = refl
 
 -- ---- a round, by cases
 
 module _ (w : List (List ℤ)) (o : List ℕ) (s : System) (D : ℕ) where
-  pub round-cases : (P : Progress → Type 0) (p : Progress) → Measured s D p
-      → ((Y : List ℤ) → Within figureLimit Y → P (measuredProgress s D (suc (p .rounds)) Y)) → P (refusedProgress p) → P (round w o s D p)
+  pub round-cases : (P : Progress → Type 0) (p : Progress) → ((Y : List ℤ) → Formed (p .trial) Y → P (measuredProgress s D (suc (p .rounds)) Y))
+      → ((Y : List ℤ) → Formed (p .trial) Y → P (refusedProgress p Y)) → P (round w o s D p)
   unfolding round updated
-  round-cases P p h a b = go (updated w o s D (p .trial)) (corrected-within (s .n) (p .trial) (substituted w (orderedResiduals o s (trial (s .n) D (p .trial))) (s .n)) (h .figures))
+  round-cases P p a b = go (updated w o s D (p .trial)) (formed (s .n) (p .trial) (substituted w (orderedResiduals o s (trial (s .n) D (p .trial))) (s .n)))
     where
-      go : (u : Update) → Within figureLimit (u .trial) → P (afterUpdate s D p u)
+      go : (u : Update) → Formed (p .trial) (u .trial) → P (afterUpdate s D p u)
       go u k = pick (u .within)
         where
-          pick : (t : Bool) → P (cond t (measuredProgress s D (suc (p .rounds)) (u .trial)) (refusedProgress p))
+          pick : (t : Bool) → P (cond t (measuredProgress s D (suc (p .rounds)) (u .trial)) (refusedProgress p (u .trial)))
           pick true = a (u .trial) k
-          pick false = b
-
-  round-places : (p : Progress) → length (round w o s D p .trial) ≡ length (p .trial)
-  unfolding round updated
-  round-places p = go (updated w o s D (p .trial)) (corrected-places (s .n) (p .trial) (substituted w (orderedResiduals o s (trial (s .n) D (p .trial))) (s .n)))
-    where
-      go : (u : Update) → length (u .trial) ≡ length (p .trial) → length (afterUpdate s D p u .trial) ≡ length (p .trial)
-      go u k = pick (u .within)
-        where
-          pick : (t : Bool) → length ((cond t (measuredProgress s D (suc (p .rounds)) (u .trial)) (refusedProgress p)) .trial) ≡ length (p .trial)
-          pick true = k
-          pick false = refl
-
-  pub refined-places : (m : ℕ) (p : Progress) → length (refined w o s D m p .trial) ≡ length (p .trial)
-  unfolding refined
-  refined-places zero p = refl
-  refined-places (suc m) p = go (ended (round w o s D p)) (round w o s D p) (refined-places m (round w o s D p)) (round-places p)
-    where
-      go : (t : Bool) (q : Progress) → length (refined w o s D m q .trial) ≡ length (q .trial) → length (q .trial) ≡ length (p .trial)
-          → length ((cond t q (refined w o s D m q)) .trial) ≡ length (p .trial)
-      go true q r e = e
-      go false q r e = r ∙ e
+          pick false = b (u .trial) k
 
   -- as code finds it: the update u, and the measurement m of its trial
   module _ (p : Progress) (u : Update) (e : u ≡ updated w o s D (p .trial)) where
@@ -116,18 +97,22 @@ module _ (w : List (List ℤ)) (o : List ℕ) (s : System) (D : ℕ) where
     unfolding round
     round-on m t q = rw (← e, t, q, add-one)
 
-    pub round-refused : u .within ≡ false → refusedProgress p ≡ round w o s D p
+    pub round-refused : u .within ≡ false → refusedProgress p (u .trial) ≡ round w o s D p
     unfolding round
     round-refused t = rw (← e, t)
 
   -- the next state q, at a loop's turn
-  module _ (p q : Progress) (h : Measured s D p) (e : q ≡ round w o s D p) where
-    pub round-measured : Measured s D q
-    round-measured =
-        rw e (round-cases (Measured s D) p h (λ Y k. record { figures = k; measurement-is = refl }) (record { figures = h .figures; measurement-is = h .measurement-is }))
+  module _ (p q : Progress) (e : q ≡ round w o s D p) where
+    pub round-resumable : Within figureLimit (p .trial) → ended q ≡ false → Resumable s D q
+    round-resumable h =
+        rw e (
+        round-cases (λ r. ended r ≡ false → Resumable s D r) p
+        (λ Y k t. record { figures = k .figures h; residuals-are = refl })
+        (λ Y k t. absurd (true≢false t))
+        )
 
     pub round-counts : q .rounds ≤ suc (p .rounds)
-    round-counts = rw e (round-cases (λ r. r .rounds ≤ suc (p .rounds)) p h (λ Y k. omega arith) (omega arith))
+    round-counts = rw e (round-cases (λ r. r .rounds ≤ suc (p .rounds)) p (λ Y k. omega arith) (λ Y k. omega arith))
 
   -- the rest of the work from here is all of it
   pub refined-none : (p : Progress) → refined w o s D 0 p ≡ p

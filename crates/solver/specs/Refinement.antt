@@ -1,18 +1,18 @@
 -- Definitions only.
--- Refinement over one elimination: document 01's "The steps", from "Y starts at zero" on. `w` is the working matrix W as the elimination leaves it, and `o` the order of its rows.
--- Rows and tanks are counted from 0.
+-- Refinement over one elimination: document 01's "The steps", from "Y starts at zero" on. `w` is the working matrix W as the elimination leaves it,
+-- and `o` the order of its rows. Rows and tanks are counted from 0.
 use Prim.Native.Nat.{ℕ, zero, suc, _+_}
 use lib.Dec.{leb, eqb}
 use lib.IntN.{ℤ, pos, natAbs, _+ℤ_}
 use lib.ListN.{getD, set, replicate}
-use mathlib.Core.Bool.{Bool, true, false, cond, not, _||_}
+use mathlib.Core.Bool.{Bool, true, false, cond}
 use mathlib.Core.List.{List}
 use Rattle.limits.specs.Limits.{mostTanks, trialLimit}
 use Rattle.integers.specs.Tables.{filled}
-use Rattle.judge.specs.Judgement.{residualVector, measurement}
-use Rattle.judge.specs.System.{System, Trial, trial}
+use Rattle.judge.specs.Judgement.{Measurement, measurementFrom, residualVector, measurement}
+use Rattle.judge.specs.System.{System, Trial, trial, zeroTrial}
 use Rattle.substitution.specs.Passes.{Corrections, forward, backward}
-use Rattle.solver.specs.declared.Progress.{Progress}
+use Rattle.solver.specs.declared.RefinementState.{RefinementState}
 
 -- ---- from the residuals to the corrections
 
@@ -63,31 +63,51 @@ updated w o s D Y = corrected (s .n) Y (substituted w (orderedResiduals o s (tri
 
 -- ---- rounds
 
+-- a trial after so many rounds, what stands beside it of each row, and whether the last round stayed within its limits
+pub record Progress : Type 0 where
+  pub within : Bool
+  pub rounds : ℕ
+  pub trial : List ℤ
+  pub measurement : Measurement
+
+-- as code holds it: the lists Y, R and T stand beside the state
+abbrev pub progressFrom : RefinementState → List ℤ → List ℤ → List ℕ → Progress
+progressFrom r Y R T = record { within = r .within; rounds = r .rounds; trial = Y; measurement = measurementFrom (r .unmet) R T }
+
+-- "Y starts at zero." Beside it stand its residuals, which the first round starts from. It is no verdict: no reach is formed and no row is looked at
+abbrev pub start : System → ℕ → Progress
+start s D =
+    record {
+      within = true;
+      rounds = 0;
+      trial = replicate mostTanks (pos 0);
+      measurement = measurementFrom 0 (residualVector s (zeroTrial (s .n) D)) (replicate mostTanks 0);
+    }
+
 -- a trial after k rounds, with what it leaves of each row: "The new Y is judged", and the row that decides is looked for in the kept one alone
 abbrev pub measuredProgress : System → ℕ → ℕ → List ℤ → Progress
 measuredProgress s D k Y = record { within = true; rounds = k; trial = Y; measurement = measurement s (trial (s .n) D Y) }
 
--- "Y starts at zero."
-abbrev pub start : System → ℕ → Progress
-start s D = measuredProgress s D 0 (replicate mostTanks (pos 0))
-
--- refusal 9: what stood before the round stays, with the mark
-abbrev pub refusedProgress : Progress → Progress
-refusedProgress p = record { within = false; rounds = p .rounds; trial = p .trial; measurement = p .measurement }
+-- refusal 9: the trial Y as far as it was formed; the rest is as it stood before the round
+abbrev pub refusedProgress : Progress → List ℤ → Progress
+refusedProgress p Y = record { within = false; rounds = p .rounds; trial = Y; measurement = p .measurement }
 
 abbrev pub afterUpdate : System → ℕ → Progress → Update → Progress
-afterUpdate s D p u = cond (u .within) (measuredProgress s D (suc (p .rounds)) (u .trial)) (refusedProgress p)
+afterUpdate s D p u = cond (u .within) (measuredProgress s D (suc (p .rounds)) (u .trial)) (refusedProgress p (u .trial))
 
 -- "A round", document 01's term: from the residuals of the trial to what the next leaves
 unfoldable pub round : List (List ℤ) → List ℕ → System → ℕ → Progress → Progress
 round w o s D p = afterUpdate s D p (updated w o s D (p .trial))
 
--- "The first that is met ends the work": the first with no unmet row; and so does a refusal
-abbrev pub endedBy : Bool → ℕ → Bool
-endedBy within unmet = not within || eqb unmet 0
+-- "The first that is met ends the work": the first with no unmet row, once a round is made; and so does a refusal. The start is no verdict, so it
+-- ends nothing
+abbrev pub endedBy : Bool → ℕ → ℕ → Bool
+endedBy false rounds unmet = true
+endedBy true zero unmet = false
+endedBy true (suc k) unmet = eqb unmet 0
 
 abbrev pub ended : Progress → Bool
-ended p = endedBy (p .within) (p .measurement .unmet)
+ended p = endedBy (p .within) (p .rounds) (p .measurement .unmet)
 
 -- at most m rounds more: "after round K the last trial stands"
 unfoldable pub refined : List (List ℤ) → List ℕ → System → ℕ → ℕ → Progress → Progress

@@ -3,23 +3,21 @@ use Prim.Native.Nat.{ℕ, _+_, _*_, _^_, _≤_}
 use lib.IntN.{ℤ, pos, natAbs}
 use lib.ListN.{getD}
 use mathlib.Core.List.{List}
-use mathlib.Core.Path.{_≡_, ap}
+use mathlib.Core.Path.{_≡_}
 use native.Mathlib.Nat.{le-trans}
 use native.Mathlib.Omega.{arith}
 use Rattle.limits.specs.Limits.{mostTanks, coefficientLimit, rightSideLimit}
 use Rattle.integers.specs.TableLaws.{all-filled}
 use Rattle.integers.specs.Tables.{Within}
-use Rattle.judge.specs.Judgement.{measurement}
+use Rattle.judge.specs.Judgement.{residualVector}
 use Rattle.judge.specs.Sizes.{residual-size, measurement-size}
 use Rattle.judge.specs.System.{System, residual, row, trial}
-use Rattle.judge.specs.declared.Measurement.{Measurement}
 use Rattle.substitution.specs.BackwardLaws.{backward-within}
 use Rattle.substitution.specs.Bounds.{residualBound, Forward, Backward}
 use Rattle.substitution.specs.ForwardLaws.{backward-ready}
 use Rattle.substitution.specs.Passes.{forward, backward}
 use Rattle.solver.specs.Limits.{Limits, Ranges, Ready, Updatable, FiguresCorrectable}
-use Rattle.solver.specs.Refinement.{figureLimit, Update, permuted, substituted, corrected, updated}
-use Rattle.solver.specs.declared.Progress.{Progress}
+use Rattle.solver.specs.Refinement.{figureLimit, Update, permuted, substituted, corrected, updated, Progress}
 
 -- ---- document 01's limits are within the types' ranges
 
@@ -36,7 +34,7 @@ module _ (s : System) (D : ℕ) (Y : List ℤ) (h : Limits (s .n) D) (r : Ranges
   residual-le i =
       le-trans (residual-size s (trial (s .n) D Y) (2 ^ 15) (2 ^ 31) figureLimit (r .coefficients) (r .right-sides) k i) enough
 
-  pub residuals-within : Within residualBound (measurement s (trial (s .n) D Y) .residuals)
+  pub residuals-within : Within residualBound (residualVector s (trial (s .n) D Y))
   residuals-within i =
       le-trans (measurement-size s (trial (s .n) D Y) (2 ^ 15) (2 ^ 31) figureLimit (r .coefficients) (r .right-sides) k i) enough
 
@@ -63,18 +61,15 @@ module _ (n : ℕ) (w : List (List ℤ)) (o : List ℕ) (R Y : List ℤ) (h : Up
 -- ---- a round starts from the residuals that stand beside the trial
 
 module _ (w : List (List ℤ)) (o : List ℕ) (s : System) (D : ℕ) (p : Progress) (h : Ready w o s D p) where
-  held : p .measurement .residuals ≡ measurement s (trial (s .n) D (p .trial)) .residuals
-  held = ap (λ (m : Measurement). m .residuals) (h .measured .measurement-is)
-
-  pub updatable : Updatable (s .n) w o (p .measurement .residuals) (p .trial)
-  updatable =
+  pub updatable : Ranges (s .rows .A) (s .rows .b) → Updatable (s .n) w o (p .measurement .residuals) (p .trial)
+  updatable r =
       record {
-        places = h .limits .small;
-        eliminated = h .eliminated;
-        residuals = rw held (residuals-within s D (p .trial) (h .limits) (h .ranges) (h .measured .figures));
-        figures = h .measured .figures;
+        places = h .startable .limits .small;
+        eliminated = h .startable .eliminated;
+        residuals = rw (h .resumable .residuals-are) (residuals-within s D (p .trial) (h .startable .limits) r (h .resumable .figures));
+        figures = h .resumable .figures;
       }
 
   pub updated-from : (u : Update) → u ≡ corrected (s .n) (p .trial) (substituted w (permuted (s .n) o (p .measurement .residuals)) (s .n)) → u ≡ updated w o s D (p .trial)
   unfolding updated
-  updated-from u e = rw held at e
+  updated-from u e = rw (h .resumable .residuals-are) at e

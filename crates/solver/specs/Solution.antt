@@ -1,50 +1,73 @@
 -- Definitions only.
 -- The answer of a system, or the refusal: document 01's "The steps" as a whole.
-use Prim.Native.Nat.{ℕ}
-use lib.IntN.{ℤ}
-use mathlib.Core.Bool.{cond}
+use Prim.Native.Nat.{ℕ, zero, suc}
+use lib.IntN.{ℤ, pos}
+use lib.ListN.{replicate}
+use mathlib.Core.Bool.{false, cond}
 use mathlib.Core.List.{List}
 use mathlib.Core.Path.{_≡_}
-use Rattle.judge.specs.Judgement.{judgement}
+use Rattle.limits.specs.Limits.{mostTanks}
+use Rattle.judge.specs.Judgement.{Measurement, Judgement, judgementFrom, judgement, concluded}
 use Rattle.judge.specs.System.{System, trial}
 use Rattle.elimination.specs.Outcome.{outcome}
-use Rattle.elimination.specs.Steps.{Run, eliminated}
+use Rattle.elimination.specs.Steps.{eliminated}
 use Rattle.elimination.specs.declared.Elimination.{Elimination}
 use Rattle.elimination.specs.declared.Elimination.the-variants.{Complete, ZeroPivot as Stopped}
 use Rattle.outcome.specs.Outcome.{statusNumber}
+use Rattle.outcome.specs.declared.Refusal.{Refusal}
 use Rattle.outcome.specs.declared.Refusal.the-variants.{ZeroPivot, OutsideRange}
 use Rattle.outcome.specs.declared.Status.{Status}
 use Rattle.outcome.specs.declared.Status.the-variants.{Accepted, Refused}
-use Rattle.solver.specs.Refinement.{start, refined}
-use Rattle.solver.specs.declared.Progress.{Progress}
-use Rattle.solver.specs.declared.Solution.{Solution}
+use Rattle.solver.specs.Refinement.{Progress, start, refined}
+use Rattle.solver.specs.declared.Kept.{Kept}
 
--- the trial Y after k rounds, judged
-abbrev pub judgedTrial : System → ℕ → Status → ℕ → List ℤ → Solution
-judgedTrial s D t k Y = record { status = t; rounds = k; trial = Y; judgement = judgement s (trial (s .n) D Y) }
+-- whether there is an answer, or the refusal: no pivot at some step (8), a correction or a figure outside its limits (9), or one from before the steps;
+-- the kept trial with its judgement, and the rounds used
+pub record Solution : Type 0 where
+  pub status : Status
+  pub rounds : ℕ
+  pub trial : List ℤ
+  pub judgement : Judgement
 
--- which trial is kept: the last, be it the first that is met or the one after round K.
-abbrev pub keptSolution : System → ℕ → Status → Progress → Solution
-keptSolution s D t p = judgedTrial s D t (p .rounds) (p .trial)
+-- as code holds it: the lists Y, R and T stand beside what is kept
+abbrev pub solutionFrom : Kept → List ℤ → List ℤ → List ℕ → Solution
+solutionFrom k Y R T = record { status = k .status; rounds = k .rounds; trial = Y; judgement = judgementFrom (k .conclusion) R T }
 
-abbrev pub answeredSolution : System → ℕ → Progress → Solution
-answeredSolution s D p = keptSolution s D (cond (p .within) Accepted (Refused OutsideRange)) p
+-- the trial Y after k rounds as an answer, judged
+abbrev pub judgedTrial : System → ℕ → ℕ → List ℤ → Solution
+judgedTrial s D k Y = record { status = Accepted; rounds = k; trial = Y; judgement = judgement s (trial (s .n) D Y) }
+
+-- nothing is said of a refused trial, beside the residuals and reaches that stand there
+abbrev pub nothingSaid : Measurement → Judgement
+nothingSaid m = record { met = false; unmet = 0; none = false; decides = 0; residuals = m .residuals; reaches = m .reaches }
+
+abbrev pub refusedSolution : Refusal → Progress → Solution
+refusedSolution r p = record { status = Refused r; rounds = p .rounds; trial = p .trial; judgement = nothingSaid (p .measurement) }
+
+-- what is said of the n rows of an answer is concluded from what stands beside it
+abbrev pub acceptedSolution : ℕ → Progress → Solution
+acceptedSolution n p = record { status = Accepted; rounds = p .rounds; trial = p .trial; judgement = concluded n (p .measurement) }
+
+-- which trial is kept: the last, be it the first that is met or the one after round K. Asked only where a round was made (`Keepable` of Limits)
+abbrev pub keptSolution : ℕ → Progress → Solution
+keptSolution n p = cond (p .within) (acceptedSolution n p) (refusedSolution OutsideRange p)
+
+-- over one complete elimination, which others may share: its working matrix and the order of its rows. With no round allowed the answer is zero
+abbrev pub solved : List (List ℤ) → List ℕ → System → ℕ → ℕ → Solution
+solved w o s D zero = judgedTrial s D 0 (replicate mostTanks (pos 0))
+solved w o s D (suc k) = keptSolution (s .n) (refined w o s D (suc k) (start s D))
 
 -- the rounds are made where the elimination is complete; refusal 8 comes where it is not
 abbrev pub byElimination : Elimination → Solution → Solution → Solution
 byElimination Complete a b = a
 byElimination (Stopped k) a b = b
 
--- over one elimination, which others may share
-abbrev pub solved : Run → System → ℕ → ℕ → Solution
-solved r s D K =
-    byElimination (outcome (s .n) (r .steps))
-    (answeredSolution s D (refined (r .working) (r .order) s D K (start s D)))
-    (keptSolution s D (Refused ZeroPivot) (start s D))
-
 -- the solution of a system over the scale D, in at most K rounds
 unfoldable pub solution : System → ℕ → ℕ → Solution
-solution s D K = solved (eliminated (s .n) (s .rows .A)) s D K
+solution s D K =
+    byElimination (outcome (s .n) (eliminated (s .n) (s .rows .A) .steps))
+    (solved (eliminated (s .n) (s .rows .A) .working) (eliminated (s .n) (s .rows .A) .order) s D K)
+    (refusedSolution ZeroPivot (start s D))
 
 -- ---- what is promised
 

@@ -28,7 +28,7 @@ use Rattle.fields.specs.Field.{field, fieldStatus}
 use Rattle.casefile.specs.Case.{Case, rowsFine}
 use Rattle.casefile.specs.Decode.{headStatus, rowOf, rowStatus, rowsStatus, trialStatus, trialOf, tailStatus, inputStatus, caseOf, decode}
 use Rattle.casefile.specs.Layout.{rowBytes, encode}
-use Rattle.recordfile.specs.Layout.{recordOf, longestRecord}
+use Rattle.recordfile.specs.Layout.{conditionFields, recordOf, longestRecord}
 use Rattle.recordfile.specs.ReadOff.{recordedRounds, recordedAnswer, recordedFinding}
 use Rattle.ballast.specs.Call.{caseSolution, answerOf, recordResult, judgeResult}
 
@@ -60,8 +60,8 @@ figuresOf n w s =
     record {
       met = w .met;
       unmet = w .unmet;
-      rounds = recordedRounds s;
-      answer = table n (recordedAnswer s);
+      rounds = recordedRounds 0 s;
+      answer = table n (recordedAnswer 0 s);
       residuals = table n (w .R);
       reaches = table n (w .T);
       factor = factorOf (w .none) (factorNumerator w) (factorDenominator w);
@@ -69,7 +69,7 @@ figuresOf n w s =
     }
 
 abbrev pub readOff : ℕ → List ℕ → Figures
-readOff n s = figuresOf n (recordedFinding n s) s
+readOff n s = figuresOf n (recordedFinding n 0 s) s
 
 -- ---- what a call gives
 
@@ -92,5 +92,5 @@ lent room = replicate room 0xA5
 -- the call on a case's bytes, with the shortest result buffer that it takes. The line below names all that the call computes with, once for
 -- every statement about it
 unfoldable pub found : Case → Result
-unfolding encode rowBytes split spread judgeResult decode inputStatus caseOf headStatus rowsStatus rowStatus rowOf rowsFine trialStatus trialOf endStatus tailStatus fieldStatus items all be caseSolution answerOf solution eliminated afterSteps nextRun pivotRow pivotFrom eliminatedBelow eliminatedRow workingMatrix workingRow fill outcome refined round updated correctedFrom forward backward backwardFrom correction rnd near roundsUp judgement firstUnmet firstNot deciding firstGreatest order orderOfNumbers residual reach filled recordResult recordOf run field beBytes
+unfolding encode rowBytes split spread judgeResult decode inputStatus caseOf headStatus rowsStatus rowStatus rowOf rowsFine trialStatus trialOf endStatus tailStatus fieldStatus items all be caseSolution answerOf solution eliminated afterSteps nextRun pivotRow pivotFrom eliminatedBelow eliminatedRow workingMatrix workingRow fill outcome refined round updated correctedFrom forward backward backwardFrom correction rnd near roundsUp judgement firstUnmet firstNot deciding firstGreatest order orderOfNumbers residual reach filled recordResult recordOf conditionFields run field beBytes
 found c = resultOf (c .n) (judgeResult (encode c) (lent longestRecord))

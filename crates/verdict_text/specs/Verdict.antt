@@ -8,8 +8,7 @@ use Rattle.outcome.specs.Outcome.{numberOf}
 use Rattle.outcome.specs.declared.Status.{Status}
 use Rattle.outcome.specs.declared.Status.the-variants.{Accepted, Refused}
 use Rattle.casefile.specs.Decode.{decode}
-use Rattle.ballast.specs.Call.{answerOf}
-use Rattle.ballast.specs.declared.Answer.{Answer}
+use Rattle.ballast.specs.Call.{Answer, answerOf}
 use Rattle.report.specs.Text.{report, text, refusalText, textRoom}
 
 -- "For a refusal it prints `refused`, a space and the number"; otherwise the lines of the answer

@@ -20,8 +20,7 @@ use Rattle.outcome.specs.declared.Status.{Status}
 use Rattle.outcome.specs.declared.Status.the-variants.{Accepted, Refused}
 use Rattle.casefile.specs.Decode.{decode}
 use Rattle.ballast.specs.AnswerBounds.{AnswerBounded, answer-bounded}
-use Rattle.ballast.specs.Call.{answerOf}
-use Rattle.ballast.specs.declared.Answer.{Answer}
+use Rattle.ballast.specs.Call.{Answer, answerOf}
 use Rattle.report.specs.Text.{report, text, refusalText, textRoom, TextFits}
 use Rattle.report.specs.TextLaws.{ReportFits, length-text, length-refusal, some-text, some-refusal}
 use Rattle.verdict_text.specs.Verdict.{textBy, textOf, printedText, textCall}
@@ -45,11 +44,11 @@ refusal-short r = length-refusal (numberOf r) (number-small r)
 answer-fits : (x : Answer) → AnswerBounded x → ReportFits (report (x .n) (x .exponent) (x .solution .rounds) (x .solution .trial) (x .solution .judgement))
 answer-fits x b =
     record {
-      tanks = b .tanks;
+      tanks = b .recordable .rows;
       exponent-small = b .exponent-small;
-      rounds-wide = lt-of-lt-of-le (b .rounds-byte) (lit≤ tt);
-      unmet-wide = lt-of-lt-of-le (b .unmet-byte) (lit≤ tt);
-      decides-wide = lt-of-lt-of-le (b .decides-byte) (lit≤ tt);
+      rounds-wide = lt-of-lt-of-le (b .recordable .rounds-byte) (lit≤ tt);
+      unmet-wide = lt-of-lt-of-le (b .recordable .unmet-byte) (lit≤ tt);
+      decides-wide = lt-of-lt-of-le (b .recordable .decides-byte) (lit≤ tt);
       answer-wide = λ j h. lt-of-le-of-lt (b .figures j) (lit< tt);
       residual-wide = λ i h. lt-of-lt-of-le (b .residuals i h) (lit≤ tt);
       reach-wide = λ i h. lt-of-lt-of-le (b .reaches i h) (lit≤ tt);
@@ -125,7 +124,7 @@ module _ (input : List ℕ) (x : Answer) (same : x ≡ answerOf (decode input)) 
     unfolding printedText textOf
     answer-printed = rw (← same, t)
 
-    pub answer-room : (room : ℕ) → textRoom ≤ room → TextFits (x .n) (x .exponent) room
+    pub answer-room : (room : ℕ) → textRoom ≤ room → TextFits (x .n) (x .exponent) 0 room
     answer-room room h =
         let b = answer-bounded input x same t in
-        record { tanks = b .tanks; exponent-small = b .exponent-small; enough = h }
+        record { tanks = b .recordable .rows; exponent-small = b .exponent-small; enough = h }

@@ -2,6 +2,7 @@
 ghost use mathlib.Core.Path.{_≡_};
 ghost use Rattle.outcome.specs.CallResult.{callResult};
 ghost use Rattle.verdict_text.specs.Verdict.{textCall};
+use limits::MOST_TANKS;
 use outcome::Outcome;
 use outcome::Refusal;
 use outcome::Status;
@@ -14,13 +15,25 @@ pub fn verdict_text(input: &[u8], out: &mut [u8]) -> Outcome
     if out.len() < report::TEXT_ROOM {
         return Outcome::Refused(Refusal::BufferTooShort);
     }
-    let a = ballast::answer_case(input);
-    let solution = a.solution;
-    let status = solution.status;
+    let mut trial = [0i32; MOST_TANKS];
+    let mut residuals = [0i64; MOST_TANKS];
+    let mut reaches = [0u64; MOST_TANKS];
+    let answer = ballast::answer_case(input, &mut trial, &mut residuals, &mut reaches);
+    let kept = answer.kept;
+    let status = kept.status;
     if let Status::Refused(refusal) = status {
         return Outcome::Count(report::render_refusal(outcome::number(refusal), out));
     }
-    let trial = solution.trial;
-    let judgement = solution.judgement;
-    Outcome::Count(report::render(a.n, a.exponent, solution.rounds, &trial, judgement, out))
+    let conclusion = kept.conclusion;
+    Outcome::Count(report::render(
+        answer.n,
+        answer.exponent,
+        kept.rounds,
+        conclusion,
+        &trial,
+        &residuals,
+        &reaches,
+        0,
+        out,
+    ))
 }

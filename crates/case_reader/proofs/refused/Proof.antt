@@ -1,13 +1,11 @@
--- `case_reader::refused` meets its contract: the refusal beside a case of zeros.
+-- `case_reader::refused` meets its contract: the refusal, and zeros in the lists.
 -- Assumes nothing.
 use mathlib.Core.Path.{refl}
-use Rattle.casefile.specs.Decode.{stored, reading}
 use Rattle.case_reader.proofs.refused.Statement.{statement}
 use Rattle.case_reader.proofs.refused.Tie as tie
 
 returns : tie.Need-returns
-unfolding reading stored
-returns c = record { number = refl; case = refl }
+returns c = record { number = refl; n = refl; exponent = refl; rounds = refl; lists = refl }
 
 pub refused-spec : {M : Type 1} → statement M
 refused-spec = tie.close (tie.spec returns)

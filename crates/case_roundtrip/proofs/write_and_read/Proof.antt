@@ -20,23 +20,23 @@ module _ (k : tie.After-write-case) where
       let a = start .args in
       caseOfLists (a .n) (a .exponent) (a .rounds) (now (a .coefficients)) (now (a .tolerances)) (now (a .right-sides)) (now (a .right-tolerances)) (now (a .trial))
 
-slice-reshare-prefix-read-case : tie.Need-slice-reshare-prefix-read-case
-slice-reshare-prefix-read-case c =
+slice-reshare-prefix-read-stored : tie.Need-slice-reshare-prefix-read-stored
+slice-reshare-prefix-read-stored c =
     let k = c .before .before .before .before .before in
     omega (arith, fits (case k) (now (start k .args .out)) (k .write-case .result) (k .write-case .ensures) _ (c .before .written .given .1))
 
 returns : tie.Need-returns
 returns c =
     let k = c .before .before .before .before .before .before .before in
-    is-read (case k) (now (start k .args .out)) (k .write-case .result) (k .write-case .ensures) _ (c .before .before .before .written .given .1) _ (c .read-case .ensures)
+    is-read (case k) (now (start k .args .out)) (k .write-case .result) (k .write-case .ensures) _ (c .before .before .before .written .given .1) _ (c .read-stored .ensures)
 
 returns-2 : tie.Need-returns-2
 returns-2 c =
     let k = c .before .before .before .before .before .before in
     is-refused (case k) (now (start k .args .out)) (k .write-case .result) (k .write-case .ensures) _ (c .before .before .written2 .given .1) _ (c .refused .ensures)
 
-slice-aggregate-read-case : tie.Need-slice-aggregate-read-case
-slice-aggregate-read-case c =
+slice-aggregate-read-stored : tie.Need-slice-aggregate-read-stored
+slice-aggregate-read-stored c =
     let k = c .before .before .before .before .before .before in
     sym (length-take-le _ _ (omega (arith, fits (case k) (now (start k .args .out)) (k .write-case .result) (k .write-case .ensures) _ (c .before .before .written .given .1))))
 
@@ -46,8 +46,8 @@ write-and-read-spec =
     (tie.spec
     (λ c κs. search needs)
     (λ c. search needs)
-    slice-reshare-prefix-read-case
-    slice-aggregate-read-case
+    slice-reshare-prefix-read-stored
+    slice-aggregate-read-stored
     (λ c κs. search needs)
     (λ c. search needs)
     (λ c κs. search needs)

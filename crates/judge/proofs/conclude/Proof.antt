@@ -10,16 +10,16 @@ use mir.Val.{SFits}
 use native.Mathlib.Omega.{arith}
 use Rattle.limits.specs.Limits.{mostTanks}
 use Rattle.fractions.specs.GreatestLaws.{first-greatest-below}
-use Rattle.judge.specs.Judgement.{decidingPlace}
+use Rattle.judge.specs.Judgement.{decidingPlace, measurementFrom}
 use Rattle.judge.specs.Laws.{conclusion}
 use Rattle.judge.proofs.conclude.Statement.{statement}
 use Rattle.judge.proofs.conclude.Tie as tie
 
 module _ (c : tie.After-greatest-factor) where
   abbrev begun : tie.Start
-  begun = c .before .before .before .before
+  begun = c .before
 
-  place-is : c .greatest-factor .result ≡ decidingPlace (begun .args .n) (begun .args .t2)
+  place-is : c .greatest-factor .result ≡ decidingPlace (begun .args .n) (measurementFrom (begun .args .unmet) (begun .args .residuals .now) (begun .args .reaches .now))
   unfolding decidingPlace
   place-is = c .greatest-factor .ensures
 
@@ -38,14 +38,15 @@ mul-lacks-factor-2 c = omega (arith, place (c .before))
 element-copy-out-lacks-factor-2 : tie.Need-element-copy-out-lacks-factor-2
 element-copy-out-lacks-factor-2 c = place (c .before)
 
-add-t19 : tie.Need-add-t19
-add-t19 c = omega (arith, place (c .before .before .before .before .before))
+add-t16 : tie.Need-add-t16
+add-t16 c = omega (arith, place (c .before .before .before))
 
 returns : tie.Need-returns
 returns c =
-    let d = c .before .before .before .before .before in
-    let f : SFits w64 (getD (begun d .args .t2 .residuals) (d .greatest-factor .result) (pos 0)) = record { sfits = c .before .before .before .before .lacks-factor-arg .given } in
-    conclusion (begun d .args .n) (begun d .args .t2) (d .greatest-factor .result) (c .before .before .lacks-factor .result) (place-is d) (simp toZ-ofZ at (c .before .before .lacks-factor .ensures))
+    let d = c .before .before .before in
+    let a = begun d .args in
+    let f : SFits w64 (getD (a .residuals .now) (d .greatest-factor .result) (pos 0)) = record { sfits = c .before .before .lacks-factor-arg .given } in
+    conclusion (a .n) (a .unmet) (a .residuals .now) (a .reaches .now) (d .greatest-factor .result) (c .lacks-factor .result) (place-is d) (simp toZ-ofZ at (c .lacks-factor .ensures))
 
 pub conclude-spec : {M : Type 1} → statement M
 conclude-spec =
@@ -57,5 +58,5 @@ conclude-spec =
     mul-lacks-factor-2
     element-copy-out-lacks-factor-2
     (λ c κs. search needs)
-    add-t19
+    add-t16
     returns)

@@ -21,7 +21,7 @@ returns c =
     let a = s .args in
     let Y = now (a .answer) in
     let e = spread-run i32Kind (pos 0) Y (a .n) (s .pre .1 .0) in
-    field-written answerTag _ _ (now (a .out)) _ (length-answers (a .n) Y ∙ sym (p .record-places .ensures .answer-len)) (w .write-header .ensures) (rw e at (c .before .before .write-i32s .ensures))
+    field-written answerTag _ _ (now (a .out)) _ (length-answers (a .n) Y ∙ sym (p .condition-places .ensures .answer-len)) (w .write-header .ensures) (rw e at (c .before .before .write-i32s .ensures))
 
 pub write-answer-spec : {M : Type 1} → statement M
 write-answer-spec =

@@ -1,11 +1,6 @@
 -- `recordfile::write_pairs` meets its contract. The loop's invariant: the pairs of the rows below i stand at the front. Assumes nothing.
 use Prim.Native.Nat.{_-_}
 use borrow.Author.Needs.{needs}
-use lib.IntN.{pos}
-use lib.ListN.{getD}
-use mir.Facts.{toZ-ofZ}
-use mir.Syntax.{w64}
-use mir.Val.{SFits}
 use native.Mathlib.Omega.{arith}
 use Rattle.buffer.specs.RunLaws.{Running, run-begun, run-turn-lent, run-ended}
 use Rattle.recordfile.specs.Laws.{length-pair}
@@ -21,11 +16,9 @@ abbrev μ-loop : tie.MeasureT-loop
 
 loop-again : tie.Need-loop-again Inv-loop μ-loop
 loop-again c =
-    let l = c .before .before .before .before .before .before .before in
+    let l = c .before .before .before .before .before in
     let a = l .before .before .args in
-    let f : SFits w64 (getD (a .residuals .now) (l .loop .i) (pos 0)) = record { sfits = c .before .before .before .before .before .write-pair-arg .given } in
-    let e = simp toZ-ofZ at (c .before .before .write-pair .ensures) in
-    run-turn-lent (l .loop .inv) (omega arith) (length-pair (a .residuals .now) (a .reaches .now) (l .loop .i)) e
+    run-turn-lent (l .loop .inv) (omega arith) (length-pair (a .residuals .now) (a .reaches .now) (l .loop .i)) (c .before .before .write-pair .ensures)
 
 pub write-pairs-spec : {M : Type 1} → statement M
 write-pairs-spec =
@@ -34,16 +27,12 @@ write-pairs-spec =
     Inv-loop
     μ-loop
     (λ c. run-begun (omega arith))
-    (λ c. search needs)
-    (λ c. search needs)
-    (λ c. search needs)
-    (λ c. search needs)
-    (λ c. omega (arith, c .before .before .before .loop .inv))
-    (λ c. omega (arith, c .before .before .before .loop .inv))
+    (λ c. omega (arith, c .before .loop .inv))
+    (λ c. omega (arith, c .before .loop .inv))
     (λ c. omega arith)
-    (λ c κs. omega (arith, c .before .before .before .before .loop .inv))
+    (λ c κs. omega (arith, c .before .before .loop .inv))
     (λ c. search needs)
-    (λ c. omega (arith, c .before .before .before .before .before .before .before .loop .inv))
+    (λ c. omega (arith, c .before .before .before .before .before .loop .inv))
     (λ c. omega arith)
     loop-again
     (λ c. omega (arith, c .before .loop .inv .same))

@@ -13,7 +13,7 @@ returns c =
     let w = c .before .before .before .before .before .before in
     let p = w .before .before .before in
     let a = p .before .before .args in
-    field-written rowsTag _ _ (now (a .out)) _ (length-pairs (a .n) (a .residuals .now) (a .reaches .now) ∙ sym (p .record-places .ensures .rows-len)) (w .write-header .ensures) (c .before .before .write-pairs .ensures)
+    field-written rowsTag _ _ (now (a .out)) _ (length-pairs (a .n) (a .residuals .now) (a .reaches .now) ∙ sym (p .condition-places .ensures .rows-len)) (w .write-header .ensures) (c .before .before .write-pairs .ensures)
 
 pub write-rows-spec : {M : Type 1} → statement M
 write-rows-spec =

@@ -12,7 +12,7 @@ use Rattle.report.proofs.render.Tie as tie
 
 module _ (v : tie.After-write-verdict-line) where
   abbrev start : tie.Start
-  start = v .before .before .before .before .before
+  start = v .before .before .before
 
   after-verdict : v .write-verdict-line .result + (mostTanks * answerRoom + (mostTanks * rowRoom + factorRoom)) ≤ length (v .write-verdict-line .last .1 .1 .1 .1 .0)
   after-verdict =
@@ -28,14 +28,14 @@ module _ (a : tie.After-write-answers) where
 
 module _ (r : tie.After-write-rows) where
   abbrev answers : tie.After-write-answers
-  answers = r .before .before .before .before .before .before
+  answers = r .before .before .before .before
 
   after-rows : r .write-rows .result + factorRoom ≤ length (r .write-rows .last .1 .1 .1 .1 .0)
   after-rows =
       omega (arith, r .write-rows .ensures .short, r .write-rows .ensures .wrote .place, r .write-rows .kept, start (verdict answers) .pre .tanks, after-answers answers)
 
 write-verdict-line-requires : tie.Need-write-verdict-line-requires
-write-verdict-line-requires c κs = omega (arith, c .before .before .before .before .pre .enough)
+write-verdict-line-requires c κs = omega (arith, c .before .before .pre .enough)
 
 write-answers-requires : tie.Need-write-answers-requires
 write-answers-requires c κs =
@@ -44,7 +44,7 @@ write-answers-requires c κs =
 
 write-rows-requires : tie.Need-write-rows-requires
 write-rows-requires c κs =
-    let a = c .before .before .before .before .before in
+    let a = c .before .before .before in
     (start (verdict a) .pre .tanks, omega (arith, after-answers a, start (verdict a) .pre .tanks))
 
 write-factor-line-requires : tie.Need-write-factor-line-requires
@@ -56,7 +56,7 @@ returns c =
     let r = c .before .before .before .before .before .before in
     let a = answers r in
     let v = verdict a in
-    wrote-then (omega arith) (v .write-verdict-line .ensures .wrote)
+    wrote-then (omega (arith, start v .pre .enough)) (v .write-verdict-line .ensures .wrote)
     (wrote-then (omega (arith, after-verdict v)) (a .write-answers .ensures .wrote)
     (wrote-then (omega (arith, after-answers a)) (r .write-rows .ensures .wrote)
     (wrote-last (c .before .before .write-factor-line .ensures .wrote) .whole)))

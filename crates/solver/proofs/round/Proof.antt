@@ -1,26 +1,24 @@
 -- `solver::round` meets its contract: the residuals that stand beside the trial are the trial's, and the next trial's take their places.
 -- Assumes nothing.
 use Prim.Native.Nat.{ℕ}
+use borrow.Author.Needs.{needs}
 use mathlib.Core.Path.{_≡_}
-use native.Mathlib.Omega.{arith}
-use Rattle.judge.specs.Laws.{measured-by-parts}
-use Rattle.judge.specs.System.{System, system, trial}
+use Rattle.judge.specs.System.{System, system}
 use Rattle.solver.specs.Laws.{round-on, round-refused}
-use Rattle.solver.specs.Refinement.{Update, update, updated}
+use Rattle.solver.specs.Refinement.{Update, update, updated, Progress, progressFrom}
 use Rattle.solver.specs.Sizes.{updatable, updated-from}
-use Rattle.solver.specs.declared.Progress.{Progress}
 use Rattle.solver.proofs.round.Statement.{statement}
 use Rattle.solver.proofs.round.Tie as tie
 
 module _ (c : tie.Start) where
   abbrev s′ : System
-  s′ = system (c .args .n) (c .args .coefficients .now) (c .args .tolerances .now) (c .args .right-sides .now) (c .args .right-tolerances .now)
+  s′ = system (c .args .n) (c .args .coefficients .now) (c .args .tolerances .now) (c .args .right-hand-side .values) (c .args .right-hand-side .tolerances)
 
   abbrev D′ : ℕ
   D′ = c .args .scale
 
   abbrev p′ : Progress
-  p′ = c .args .t9
+  p′ = progressFrom (c .args .state) (c .args .trial .now) (c .args .residuals .now) (c .args .reaches .now)
 
 module _ (c : tie.After-update-trial) where
   abbrev begun : tie.Start
@@ -37,31 +35,13 @@ module _ (c : tie.After-update-trial) where
 update-trial-requires : tie.Need-update-trial-requires
 update-trial-requires c κs =
     let b = c .before .before .before .before in
-    updatable (b .args .working .now) (b .args .order .now) (s′ b) (D′ b) (p′ b) (b .pre)
-
-fill-residuals-requires : tie.Need-fill-residuals-requires
-fill-residuals-requires c κs = begun (c .before .before .before) .pre .limits .small
-
-fill-reaches-requires : tie.Need-fill-reaches-requires
-fill-reaches-requires c κs = begun (c .before .before .before .before .before .before) .pre .limits .small
-
-first-beyond-requires : tie.Need-first-beyond-requires
-first-beyond-requires c κs = begun (c .before .before .before .before .before .before .before .before .before .before) .pre .limits .small
-
-add-progress : tie.Need-add-progress
-add-progress c = let k = begun (c .before .before .before .before .before .before .before .before .before .before .before) .pre .countable in omega arith
+    updatable (b .args .working .now) (b .args .order .now) (s′ b) (D′ b) (p′ b) (b .pre) (c .before .before .type-ranges .ensures)
 
 returns : tie.Need-returns
 returns c =
-    let d = c .before .before .before .before .before .before .before .before .before .before .before .before in
+    let d = c .before .before .before .before .before .before in
     let b = begun d in
-    let a = b .args in
-    let m =
-    measured-by-parts (a .n) (a .coefficients .now) (a .tolerances .now) (a .right-sides .now) (a .right-tolerances .now) (trial (a .n) (a .scale) (next d .trial)) (b .pre .limits .small) _ _ _
-    (c .before .before .before .before .before .before .before .before .fill-residuals .ensures)
-    (c .before .before .before .before .before .fill-reaches .ensures)
-    (c .before .first-beyond .ensures) in
-    round-on (a .working .now) (a .order .now) (s′ b) (D′ b) (p′ b) (next d) (next-is d) _ (c .before .before .before .before .before .before .before .before .before .before .before .if1 .taken) m
+    round-on (b .args .working .now) (b .args .order .now) (s′ b) (D′ b) (p′ b) (next d) (next-is d) _ (c .before .before .before .before .before .if1 .taken) (c .before .measure .ensures)
 
 returns-2 : tie.Need-returns-2
 returns-2 c =
@@ -73,10 +53,9 @@ pub round-spec : {M : Type 1} → statement M
 round-spec =
     tie.close
     (tie.spec
+    (λ c κs. search needs)
     update-trial-requires
-    fill-residuals-requires
-    fill-reaches-requires
-    first-beyond-requires
-    add-progress
+    (λ c κs. search needs)
+    (λ c. search needs)
     returns
     returns-2)

@@ -1,77 +1,73 @@
--- `solver::solve` meets its contract: the rounds start from a complete elimination and from what the zero trial leaves, or refusal 8 is told.
+-- `solver::solve` meets its contract: the answer is that over a complete elimination, or refusal 8 is told.
 -- Assumes nothing.
 use Prim.Native.Nat.{ℕ}
 use borrow.Author.Needs.{needs}
 use lib.IntN.{ℤ}
 use mathlib.Core.List.{List}
-use mathlib.Core.Path.{_≡_, refl, sym, _∙_}
+use mathlib.Core.Path.{_≡_, sym, ap, _∙_}
 use Rattle.judge.specs.System.{System, system}
-use Rattle.elimination.specs.Outcome.{outcome}
 use Rattle.elimination.specs.OutcomeLaws.{answer-is}
-use Rattle.elimination.specs.Steps.{Run, eliminated}
-use Rattle.elimination.specs.declared.Elimination.the-variants as E
-use Rattle.solver.specs.Answers.{refined-measured}
-use Rattle.solver.specs.Limits.{Measured, Startable}
-use Rattle.solver.specs.Outcomes.{start-measured, startable, solution-answered, solution-refused, solution-promised, same-solution}
-use Rattle.solver.specs.Refinement.{start}
+use Rattle.solver.specs.Outcomes.{eliminated-whole, solution-solved, solution-refused, promised-also}
+use Rattle.solver.specs.Refinement.{Progress, progressFrom, start}
 use Rattle.solver.proofs.solve.Statement.{statement}
 use Rattle.solver.proofs.solve.Tie as tie
 
--- the system, its scale and its elimination
+-- the system and its scale
 module _ (c : tie.Start) where
   abbrev s′ : System
-  s′ = system (c .args .n) (c .args .coefficients .now) (c .args .tolerances .now) (c .args .right-sides .now) (c .args .right-tolerances .now)
+  s′ = system (c .args .n) (c .args .coefficients .now) (c .args .tolerances .now) (c .args .right-hand-side .values) (c .args .right-hand-side .tolerances)
 
   abbrev D′ : ℕ
   D′ = c .args .scale
 
-  abbrev r′ : Run
-  r′ = eliminated (c .args .n) (c .args .coefficients .now)
-
-module _ (c : tie.After-start) where
+module _ (c : tie.After-eliminate) where
   abbrev begun : tie.Start
-  begun = c .before .before .before .before .before .before .before
+  begun = c .before .before .before .before .before
 
   abbrev working′ : List (List ℤ)
-  working′ = c .before .eliminate .last .1 .1 .0
+  working′ = c .eliminate .last .1 .1 .0
 
   abbrev order′ : List ℕ
-  order′ = c .before .eliminate .last .1 .1 .1 .0
+  order′ = c .eliminate .last .1 .1 .1 .0
 
-  abbrev first-is : c .start .result ≡ start (s′ begun) (D′ begun)
-  first-is = c .start .ensures (begun .args .coefficients .now) (begun .args .tolerances .now)
+module _ (c : tie.After-start) where
+  abbrev made : tie.After-eliminate
+  made = c .before .before .before .before .before .before
 
-  first-measured : Measured (s′ begun) (D′ begun) (c .start .result)
-  first-measured = start-measured (s′ begun) (D′ begun) (c .start .result) first-is
+  abbrev first : Progress
+  first = progressFrom (c .start .result) (c .start .last .1 .1 .1 .0) (c .start .last .1 .1 .1 .1 .0) (c .start .last .1 .1 .1 .1 .1 .0)
 
-  ready : outcome (begun .args .n) (r′ begun .steps) ≡ E.Complete → Startable working′ order′ (s′ begun) (D′ begun) (c .start .result)
-  ready = startable (s′ begun) (D′ begun) working′ order′ (c .start .result) (c .before .eliminate .ensures .working-is) (c .before .eliminate .ensures .order-is) first-is (begun .pre) (c .before .before .before .before .type-ranges .ensures)
+  first-is : first ≡ start (s′ (begun made)) (D′ (begun made))
+  first-is = c .start .ensures (begun made .args .coefficients .now) (begun made .args .tolerances .now)
 
-refine-requires : tie.Need-refine-requires
-refine-requires c κs =
-    let d = c .before .before .before .before in
-    ready d (sym (answer-is (d .before .eliminate .ensures)) ∙ c .before .before .enum-told2 .given .1)
+solve-eliminated-requires : tie.Need-solve-eliminated-requires
+solve-eliminated-requires c κs =
+    let d = c .before .before .before .before .before .before .before in
+    let b = begun d in
+    let e = d .eliminate .ensures in
+    record {
+      limits = b .pre;
+      eliminated =
+          eliminated-whole (s′ b) (D′ b) (working′ d) (order′ d) (e .working-is) (e .order-is) (sym (answer-is e) ∙ c .before .before .before .before .before .enum-told2 .given .1) (b .pre .small)
+          (d .before .before .before .type-ranges .ensures .coefficients);
+    }
 
 returns : tie.Need-returns
 returns c =
-    let d = c .before .before .before in
+    let f = c .before in
+    let d = made f in
     let b = begun d in
-    solution-promised _ _
-    (same-solution _ _ (c .kept .ensures (s′ b) (D′ b) refl (first-measured d))
-    ∙ solution-refused (s′ b) (D′ b) (b .args .rounds) (c .before .enum-told .given .0 .0) (d .start .result) (first-is d)
-    (sym (answer-is (d .before .eliminate .ensures)) ∙ c .before .enum-told .given .1))
+    let told = f .before .before .before .before .enum-told .given in
+    promised-also (c .refused .ensures (first f) (ap (λ (p : Progress). p .rounds) (first-is f)))
+    (solution-refused (s′ b) (D′ b) (b .args .rounds) (told .0 .0) (first f) (first-is f) (sym (answer-is (d .eliminate .ensures)) ∙ told .1))
 
 returns-2 : tie.Need-returns-2
 returns-2 c =
-    let d = c .before .before .before .before .before .before in
+    let d = c .before .before .before .before .before .before .before .before in
     let b = begun d in
-    let r = c .before .refine in
-    let m = refined-measured (working′ d) (order′ d) (s′ b) (D′ b) (b .args .rounds) (d .start .result) (r .result) (first-measured d) (r .ensures) in
-    solution-promised _ _
-    (same-solution _ _ (c .answered .ensures (s′ b) (D′ b) refl m)
-    ∙ solution-answered (s′ b) (D′ b) (working′ d) (order′ d) (d .start .result) (d .before .eliminate .ensures .working-is) (d .before .eliminate .ensures .order-is) (first-is d)
-    (b .args .rounds) (r .result) (r .ensures)
-    (sym (answer-is (d .before .eliminate .ensures)) ∙ c .before .before .before .before .enum-told2 .given .1))
+    let e = d .eliminate .ensures in
+    promised-also (c .solve-eliminated .ensures)
+    (solution-solved (s′ b) (D′ b) (working′ d) (order′ d) (e .working-is) (e .order-is) (sym (answer-is e) ∙ c .before .before .before .before .before .before .enum-told2 .given .1) (b .args .rounds))
 
 pub solve-spec : {M : Type 1} → statement M
 solve-spec =
@@ -79,11 +75,10 @@ solve-spec =
     (tie.spec
     (λ c κs. search needs)
     (λ c κs. search needs)
-    (λ c κs. search needs)
     (λ c. search needs)
     (λ c κs. search needs)
-    (λ c. search needs)
-    refine-requires
     (λ c κs. search needs)
+    (λ c. search needs)
+    solve-eliminated-requires
     returns
     returns-2)
