@@ -9,7 +9,7 @@
  * figures at multiples of 4), and a buffer shares no memory with what is read. A function allocates nothing, keeps no state, calls nothing
  * outside the library but memcpy and memset, may be called from any thread, and needs at most BALLAST_STACK_NEED bytes of its stack.
  *
- * The result is one number. From 0 on it is a count; below 0 it is a refusal, -1 to -9. After a refusal no byte of the buffer has changed;
+ * The result is one number. From 0 on it is a count; below 0 it is a refusal, -1 to -10. After a refusal no byte of the buffer has changed;
  * after a count the bytes beyond that many are as they were.
  */
 #ifndef BALLAST_H
@@ -27,11 +27,12 @@ extern "C" {
 #define BALLAST_VERSION 1
 
 #define BALLAST_MOST_TANKS 8
-#define BALLAST_RECORD_ROOM 180 /* the longest record, and the shortest buffer for one */
-#define BALLAST_CASE_ROOM 388   /* the longest case, and the shortest buffer for one */
-#define BALLAST_TEXT_ROOM 800   /* no printed verdict is longer, and the shortest buffer for one */
+#define BALLAST_RECORD_ROOM 180   /* the longest record, and the shortest buffer for one */
+#define BALLAST_CASE_ROOM 388     /* the longest case, and the shortest buffer for one */
+#define BALLAST_TEXT_ROOM 800     /* no printed verdict is longer, and the shortest buffer for one */
+#define BALLAST_SOUNDINGS_ROOM 16 /* two bytes for each of eight tanks, and the shortest buffer for soundings */
 
-/* Measured and not proved: examples/run calls each function on a painted stack and finds 4,120 bytes changed at most. Where memcpy and memset are bound at their first call, what the loader needs for that comes
+/* Measured and not proved: examples/run calls each function on a painted stack and finds 5,672 bytes changed at most. Where memcpy and memset are bound at their first call, what the loader needs for that comes
  * on top. */
 #define BALLAST_STACK_NEED 8192
 
@@ -46,7 +47,9 @@ enum ballast_refusal {
     BALLAST_TRAILING_BYTES = -7,   /* something follows the end of the case */
     BALLAST_ZERO_PIVOT = -8,       /* at some step of the elimination every candidate for the pivot is zero; as the steps round, this does not
                                       prove that the equations have no single answer */
-    BALLAST_OUTSIDE_RANGE = -9     /* on the way a figure of the answer left +-10,000,000, or a correction +-20,000,000 */
+    BALLAST_OUTSIDE_RANGE = -9,    /* on the way a figure of the answer left +-10,000,000, or a correction +-20,000,000 */
+    BALLAST_OUTSIDE_TABLE = -10    /* of soundings alone: an answer is negative, so water would have to be pumped out, or is more than the
+                                      reference tank holds at 400 cm, 520,000 kg */
 };
 
 /* What a record says of a row with coefficients A, their tolerances E, right side b and its tolerance f, at the answer Y and D = 10^e:
@@ -68,6 +71,9 @@ enum ballast_refusal {
 #define BALLAST_RECORD_LENGTH(n) (20 + 20 * (n))
 #define BALLAST_RECORD_TANKS(length) (((length) - 20) / 20) /* the n of a record of this length */
 
+/* Place in soundings, the highest byte first; j counts tanks from 0: */
+#define BALLAST_DEPTH_AT(j) (2 * (j)) /* 2 bytes, unsigned: tank j's depth in centimetres, 0 to 400 */
+
 /* Reads a case and returns its number of tanks n, 1 to 8, or refuses it with -2 to -7. */
 int64_t ballast_check_case(const uint8_t *input, size_t input_length);
 
@@ -75,6 +81,13 @@ int64_t ballast_check_case(const uint8_t *input, size_t input_length);
  * record's length, 20 + 20 n. "Met" in the record means that figures within the case's tolerances balance exactly with that answer, "not
  * met" that none do. Refuses with -1 an out shorter than BALLAST_RECORD_ROOM, then with -2 to -9. */
 int64_t ballast_judge_case(const uint8_t *input, size_t input_length, uint8_t *out, size_t out_length);
+
+/* Works out the case's answer (or takes the trial that it brings), the same that the record would hold and met or not, and leaves each tank's
+ * depth at the front of out, two bytes each, tank 1 first; returns 2 n. A depth is the greatest, in whole centimetres, at which the reference
+ * tank holds no more than the answer; at h centimetres, 0 to 400, it holds 900 h + h h kilograms, and nothing is rounded. No record is
+ * written. Refuses with -1 an out shorter than BALLAST_SOUNDINGS_ROOM, then with -2 to -9 what ballast_judge_case refuses so, then with -10
+ * an answer of any tank that is negative or above 520,000 kilograms. */
+int64_t ballast_soundings(const uint8_t *input, size_t input_length, uint8_t *out, size_t out_length);
 
 /* Writes the printed verdict of a case, as the program `verdict` prints it, to the front of out and returns its length, which is above 0; it
  * ends in a line feed, and no zero byte is written behind it. A refused case has a printed verdict too ("refused 6"), so the only refusal is

@@ -94,9 +94,9 @@ def with_rounds(data, rounds):
     return data[:5] + bytes([rounds]) + data[6:]
 
 
-def with_buffers(inputs):
-    """Gives each input a buffer that is long enough, the three lengths in turn."""
-    return [(data, ENOUGH[i % len(ENOUGH)]) for i, data in enumerate(inputs)]
+def with_buffers(inputs, enough=ENOUGH):
+    """Gives each input a buffer that is long enough, the lengths in turn."""
+    return [(data, enough[i % len(enough)]) for i, data in enumerate(inputs)]
 
 
 def finished(data):
@@ -704,6 +704,11 @@ FAMILIES = [
 ]
 
 
+def named(families):
+    """(family name, input, buffer length) of every call, in a fixed order."""
+    return [(name, data, length) for name, make in families for data, length in make()]
+
+
 def all_families():
-    """(family name, input, buffer length) of every vector, in a fixed order."""
-    return [(name, data, length) for name, make in FAMILIES for data, length in make()]
+    """Every vector."""
+    return named(FAMILIES)

@@ -1,11 +1,11 @@
 #!/usr/bin/env python3
-"""Reference for the paper "Ballast case, trial answer and verdict".
+"""Reference for the papers "Ballast case, trial answer and verdict" and "Later changes to the base".
 
 Reads a case, takes its trial answer or works one out by rounded elimination with
-refinement, judges it exactly and writes a record; also writes cases and prints verdicts.
-Whole numbers and fractions.Fraction only, no floating arithmetic. Lists count from 0
-here; every row or tank number that leaves a function counts from 1. Quotations in the
-comments are the paper's own words.
+refinement, judges it exactly and writes a record, or gives the tanks' depths for it; also
+writes cases and prints verdicts. Whole numbers and fractions.Fraction only, no floating
+arithmetic. Lists count from 0 here; every row or tank number that leaves a function
+counts from 1. Quotations in the comments are the papers' own words.
 
 Command:  python3 tools/reference.py verdict < case
 """
@@ -16,6 +16,8 @@ from fractions import Fraction
 
 # "at most 180" / "The result buffer is shorter than 180 bytes."
 LEAST_RESULT_BUFFER = 180
+# "Depths go, two bytes each, into a buffer of at least 16 bytes"
+LEAST_DEPTHS_BUFFER = 16
 # "The longest case has 388 bytes." / "It refuses with 1 a buffer shorter than 388 bytes"
 LONGEST_CASE = 388
 # "The program `verdict` reads at most 389 bytes of standard input"
@@ -415,26 +417,31 @@ def record_bytes(finished):
 
 
 # "Refusals 8 and 9 come only when the whole case has been read and K is at least 1."
-def work(data, buffer_length):
-    if buffer_length < LEAST_RESULT_BUFFER:
+def work(data, buffer_length, least=LEAST_RESULT_BUFFER):
+    if buffer_length < least:
         raise Refused(1)
     return finish(take_case(data))
 
 
-# "the call that takes a case and a result buffer and leaves the record" (changes buffer in place)
-def judge_case(data, buffer):
+# "Any refusal ... returns its number and changes no byte." (the bytes made of a finished case are left)
+def leave(data, buffer, least, made_of):
     try:
-        record = record_bytes(work(data, len(buffer)))
+        left = made_of(work(data, len(buffer), least))
     except Refused as refused:
         return Outcome(REFUSAL, refused.number)
-    buffer[:len(record)] = record
-    return Outcome(COUNT, len(record))
+    buffer[:len(left)] = left
+    return Outcome(COUNT, len(left))
+
+
+# "the call that takes a case and a result buffer and leaves the record" (changes buffer in place)
+def judge_case(data, buffer):
+    return leave(data, buffer, LEAST_RESULT_BUFFER, record_bytes)
 
 
 # "The result buffer beyond the record stays as it was." (outcome, and the buffer afterwards)
-def call(data, buffer_length, fill=0xA5):
+def call(data, buffer_length, fill=0xA5, function=judge_case):
     buffer = bytearray([fill]) * buffer_length
-    outcome = judge_case(data, buffer)
+    outcome = function(data, buffer)
     return outcome, bytes(buffer)
 
 
@@ -453,6 +460,46 @@ def read_record(record):
         [int.from_bytes(pair[:8], "big", signed=True) for pair in pairs],
         [int.from_bytes(pair[8:], "big") for pair in pairs], *last,
     )
+
+
+# ---------------------------------------------------------------- soundings
+
+
+# "the reference tank: 401 entries, depth h from 0 to 400 centimetres, entry 900 × h + h × h kilograms"
+TABLE = [900 * h + h * h for h in range(401)]
+
+
+# "not above Y × 1,000 / D kilograms" (both sides times D)
+def not_above(entry, figure, d):
+    return entry * d <= figure * 1_000
+
+
+# "when an answer is negative or above the entry for 400"
+def outside_table(figure, d):
+    return figure < 0 or figure * 1_000 > TABLE[-1] * d
+
+
+# "each tank's greatest depth whose entry is not above Y × 1,000 / D kilograms"
+def depth(figure, d):
+    return max(h for h, entry in enumerate(TABLE) if not_above(entry, figure, d))
+
+
+# "It refuses, with 10 and after 1 to 9" / "Depths go, two bytes each, into a buffer"
+def depth_bytes(finished):
+    d, answer = scale(finished.case), finished.trial.answer
+    if any(outside_table(figure, d) for figure in answer):
+        raise Refused(10)
+    return b"".join(depth(figure, d).to_bytes(2, "big") for figure in answer)
+
+
+# "For a case, work out its answer as before, write no record, and give each tank's greatest depth"
+def soundings(data, buffer):
+    return leave(data, buffer, LEAST_DEPTHS_BUFFER, depth_bytes)
+
+
+# "bytes beyond the depths stay as they were" (outcome, and the buffer afterwards)
+def call_soundings(data, buffer_length, fill=0xA5):
+    return call(data, buffer_length, fill, soundings)
 
 
 # ---------------------------------------------------------------- the changes a record yields

@@ -6,6 +6,7 @@
 
 NAME.case holds the bytes of the case, NAME.hex the same bytes in hexadecimal, one field
 a line with a comment after the number sign, and NAME.txt what `verdict` prints for it.
+The dump of soundings ends with a comment that gives each tank's depth.
 """
 
 import sys
@@ -49,6 +50,12 @@ def spoiled():
     return square([[2, 1], [1, 3]], [5, 10])[:-9]
 
 
+def soundings():
+    """Three tanks with answers inside the table; tank 1 holds exactly the entry for 200 centimetres."""
+    rows = [([1, 4, -2], 500, 1), ([6, 0, 0], 1_320, 0), ([2, -7, 40], 2_100, 1)]
+    return encode(1, 3, [(coefficients, [0, 0, 0], b, f) for coefficients, b, f in rows])
+
+
 SAMPLES = {
     "one-tank": lambda: one(3, 1, 0, 1, e=1),
     "negative-answer": lambda: families.PRINTED,
@@ -58,6 +65,7 @@ SAMPLES = {
     "no-factor": no_factor,
     "eight-tanks": eight_tanks,
     "spoiled": spoiled,
+    "soundings": soundings,
 }
 
 
@@ -119,6 +127,14 @@ def dump(data):
     return "".join(lines)
 
 
+def depths_comment(data):
+    """The depths of a case whose answers are inside the table, in one line."""
+    outcome, buffer = reference.call_soundings(data, reference.LEAST_DEPTHS_BUFFER)
+    assert outcome.kind == reference.COUNT
+    depths = [int.from_bytes(buffer[i:i + 2], "big") for i in range(0, outcome.number, 2)]
+    return f"# depths in centimetres: {plain(depths)}\n"
+
+
 # ---------------------------------------------------------------- writing and comparing
 
 
@@ -127,7 +143,8 @@ def make_files():
     for name, make in SAMPLES.items():
         data = make()
         files[f"{name}.case"] = data
-        files[f"{name}.hex"] = dump(data).encode("ascii")
+        text = dump(data) + (depths_comment(data) if name == "soundings" else "")
+        files[f"{name}.hex"] = text.encode("ascii")
         files[f"{name}.txt"] = reference.verdict_text(data).encode("ascii")
     return files
 

@@ -5,6 +5,7 @@
 """
 
 import itertools
+import math
 import os
 import subprocess
 import sys
@@ -18,12 +19,15 @@ sys.path.insert(0, HERE)
 import families  # noqa: E402
 import reference  # noqa: E402
 import samples  # noqa: E402
+import sounding_calls  # noqa: E402
 import vectors  # noqa: E402
 import write_calls  # noqa: E402
 from families import END, Stream, encode, head_field, one, row_field, square, trial_field  # noqa: E402
 from reference import COUNT, REFUSAL, Outcome  # noqa: E402
+from sounding_calls import holding  # noqa: E402
 
 INPUTS = families.all_families()
+CALLS = sounding_calls.all_calls()
 
 
 # ---------------------------------------------------------------- independent definitions
@@ -124,6 +128,19 @@ def feasible(case, i, answer, limit):
     """Whether changes under the limit solve the row: a linear form takes 0 on the box."""
     values = list(misses(case, i, answer, limit))
     return min(values) <= 0 <= max(values)
+
+
+def depth_by_root(figure, e):
+    """The greatest h with (h + 450)² at most the kilograms and 450²; D divides 1,000."""
+    return math.isqrt(figure * (1_000 // 10 ** e) + 450 ** 2) - 450
+
+
+def depths_or_refusal(record, e):
+    """What soundings give for a record's answer: the depths, or 10."""
+    kilograms = [Fraction(figure, 10 ** e) * 1_000 for figure in record.answer]
+    if any(not 0 <= k <= 520_000 for k in kilograms):
+        return 10
+    return [depth_by_root(figure, e) for figure in record.answer]
 
 
 def small_case(stream, n, size, rounds=0):
@@ -440,6 +457,128 @@ class Judging(unittest.TestCase):
         self.assertEqual((record.answer, record.residuals, record.first_unmet), ([4, 5], [0, -1], 2))
 
 
+class Soundings(unittest.TestCase):
+    def depths(self, data, length=16):
+        """The depths, with the bytes beyond them as they were."""
+        outcome, buffer = reference.call_soundings(data, length, 0x5A)
+        self.assertEqual(outcome.kind, COUNT, outcome)
+        self.assertEqual(buffer[outcome.number:], b"\x5a" * (length - outcome.number))
+        self.assertEqual(outcome.number, 2 * data[3])
+        return [int.from_bytes(buffer[i:i + 2], "big") for i in range(0, outcome.number, 2)]
+
+    def refused(self, data, number, length=16):
+        outcome, buffer = reference.call_soundings(data, length, 0x5A)
+        self.assertEqual(outcome, Outcome(REFUSAL, number))
+        self.assertEqual(buffer, b"\x5a" * length)
+
+    def both_ways(self, e, figure):
+        """A tank with this answer, brought and worked out."""
+        return [holding(e, [figure], 0), holding(e, [figure], 1)]
+
+    def test_table(self):
+        self.assertEqual(len(reference.TABLE), 401)
+        self.assertEqual(reference.TABLE[:3] + reference.TABLE[-2:], [0, 901, 1_804, 518_301, 520_000])
+        total = 0
+        for h, entry in enumerate(reference.TABLE):
+            self.assertEqual(entry, total)
+            total += 901 + 2 * h
+
+    def test_depths_against_roots(self):
+        for e in range(4):
+            near = {y + k for y in sounding_calls.depth_figures(e) for k in (-1, 0, 1)} | set(range(5_201))
+            for figure in sorted(near & set(range(520 * 10 ** e + 1))):
+                self.assertEqual(reference.depth(figure, 10 ** e), depth_by_root(figure, e), (figure, e))
+
+    def test_at_below_and_above_an_entry(self):
+        steps = {0: 100, 1: 10, 2: 10, 3: 1}
+        for e, step in steps.items():
+            exact = [h for h in range(401) if reference.TABLE[h] * 10 ** e % 1_000 == 0]
+            self.assertEqual(exact, list(range(0, 401, step)))
+            for h in exact:
+                figure = reference.TABLE[h] * 10 ** e // 1_000
+                self.assertEqual(self.depths(holding(e, [figure], h % 2)), [h])
+                if h > 0:
+                    self.assertLess(self.depths(holding(e, [figure - 1], h % 2))[0], h)
+                if h == 400:
+                    self.refused(holding(e, [figure + 1], h % 2), 10)
+                elif e > 0:
+                    self.assertEqual(self.depths(holding(e, [figure + 1], h % 2)), [h])
+
+    def test_kilograms_one_by_one(self):
+        for h in range(1, 400):
+            around = [reference.TABLE[h] + k for k in (-1, 0, 1)]
+            self.assertEqual(self.depths(holding(3, around, 0)), [h - 1, h, h])
+
+    def test_ends_of_the_table(self):
+        for e in range(4):
+            top = 520 * 10 ** e
+            for figure, h in ((0, 0), (top - 1, 399), (top, 400)):
+                for data in self.both_ways(e, figure):
+                    self.assertEqual(self.depths(data), [h])
+            for figure in (-1, -top, -10_000_000, top + 1, 4_294_968, 10_000_000):
+                for data in self.both_ways(e, figure):
+                    self.refused(data, 10)
+
+    def test_tanks_in_their_order(self):
+        figures = [90_181, 0, 520_000, 1_804, 1_803, 220_000, 99_999, 901]
+        expected = [91, 0, 400, 2, 1, 200, 99, 1]
+        for rounds in (0, 1, 5):
+            for shift in range(8):
+                self.assertEqual(self.depths(holding(3, figures, rounds, shift), 17), expected)
+
+    def test_sample(self):
+        self.assertEqual(self.depths(samples.soundings()), [200, 99, 61])
+        self.assertEqual(finished_record(samples.soundings()).answer, [2_200, 994, 589])
+
+    def test_one_tank_outside_leaves_every_byte(self):
+        for n in range(1, 9):
+            for place, figure, rounds in itertools.product(range(n), (-1, 521), (0, 2)):
+                figures = [7] * n
+                figures[place] = figure
+                for length in (16, 17, 40):
+                    self.refused(holding(0, figures, rounds), 10, length)
+
+    def test_order_of_refusals(self):
+        numbers = [2, 3, 4, 5, 6, 7, 8, 9, 10, 10, 10]
+        for data, number in zip(sounding_calls.one_of_each_refusal(), numbers, strict=True):
+            self.refused(data, number)
+            self.refused(data, number, 180)
+            for length in (0, 1, 4, 15):
+                self.refused(data, 1, length)
+        for length in (0, 2, 15):
+            self.refused(holding(0, [1], 0), 1, length)
+        for _, data, _ in INPUTS[::7]:
+            self.refused(data, 1, 15)
+
+    def test_same_answer_as_the_record(self):
+        found = set()
+        for _, data, _ in INPUTS[::5] + CALLS:
+            outcome, buffer = reference.call(data, 180)
+            if outcome.kind == REFUSAL:
+                expected = outcome.number
+            else:
+                expected = depths_or_refusal(reference.read_record(buffer[:outcome.number]), data[4])
+            if isinstance(expected, int):
+                self.refused(data, expected)
+                found.add(expected)
+            else:
+                self.assertEqual(self.depths(data, 20), expected)
+        self.assertEqual(found, set(range(2, 11)))
+
+    def test_calls_hold_every_edge(self):
+        found = {kind for _, data, length in CALLS for kind in vectors.sounding_kinds(data, length)}
+        edges = ("0 kilograms", "520,000 kilograms", "an entry exactly", "one unit below an entry",
+                 "one unit above an entry", "depth 0", "depth 200", "depth 399", "depth 400", "negative",
+                 "one unit above the table", "several outside", "only later tanks outside", "count")
+        due = {f"{edge}, D {10 ** e}" for edge in edges for e in range(4)}
+        due |= {f"refusal {number}" for number in range(1, 11)} | {f"count, n {n}" for n in range(1, 9)}
+        for kind, came, verdict in itertools.product(
+                ("count", "refusal 10"), ("brought", "worked out"), ("met", "unmet")):
+            due.add(f"{kind}, {came}, {verdict}")
+        self.assertEqual(due - found, set())
+        self.assertGreaterEqual(len(CALLS), 700)
+
+
 class Changes(unittest.TestCase):
     def test_every_record(self):
         met_rows = 0
@@ -547,13 +686,20 @@ class StoredForms(unittest.TestCase):
         self.assertEqual((outcome.kind == REFUSAL, outcome.number), (refused, number))
         self.assertEqual(bytes(buffer), front + b"\xa5" * (len(buffer) - len(front)))
 
-    def check_vector(self, stored):
+    def check_call(self, stored, call):
         data = stored.sized()
         self.assertLessEqual(len(data), 400)
         length = stored.number()
-        outcome, buffer = reference.call(data, length)
+        self.assertLessEqual(length, 512)
+        outcome, buffer = call(data, length)
         self.assertEqual(len(buffer), length)
         self.agrees(outcome, buffer, stored)
+
+    def check_vector(self, stored):
+        self.check_call(stored, reference.call)
+
+    def check_soundings(self, stored):
+        self.check_call(stored, reference.call_soundings)
 
     def check_text(self, stored):
         data = stored.sized()
@@ -576,8 +722,11 @@ class StoredForms(unittest.TestCase):
     def test_writes_parse(self):
         self.each("writes.bin", self.check_write, 300, b"\xff\xff\xff")
 
+    def test_soundings_parse(self):
+        self.each("soundings.bin", self.check_soundings, 700)
+
     def test_sizes(self):
-        self.assertLess(len(self.files["vectors.bin"]) + len(self.files["texts.bin"]), 2_000_000)
+        self.assertLess(sum(len(content) for content in self.files.values()), 2_000_000)
 
     def test_samples_parse(self):
         for name, content in samples.make_files().items():
@@ -591,19 +740,29 @@ def results(inputs):
     return [(reference.call(data, length), reference.verdict_text(data)) for data, length in inputs]
 
 
-class Mistakes(unittest.TestCase):
-    """Each mistake put into the reference changes at least one vector."""
+def depths_left(inputs):
+    return [reference.call_soundings(data, length) for data, length in inputs]
+
+
+class Caught:
+    """Each mistake put into the reference changes at least one result of the inputs."""
+
+    def caught(self, name, wrong, least=3):
+        with mock.patch.object(reference, name, wrong):
+            found = self.results(self.inputs)
+        differing = sum(a != b for a, b in zip(self.right, found))
+        self.assertGreaterEqual(differing, least, name)
+
+
+class Mistakes(Caught, unittest.TestCase):
+    """Mistakes in records and printed verdicts, over the vectors."""
+
+    results = staticmethod(results)
 
     @classmethod
     def setUpClass(cls):
         cls.inputs = [(data, length) for _, data, length in INPUTS if length >= 180 and len(data) < 160]
         cls.right = results(cls.inputs)
-
-    def caught(self, name, wrong, least=3):
-        with mock.patch.object(reference, name, wrong):
-            found = results(self.inputs)
-        differing = sum(a != b for a, b in zip(self.right, found))
-        self.assertGreaterEqual(differing, least, name)
 
     def test_rounding(self):
         self.caught("rnd", lambda p, q: (2 * p + q) // (2 * q))
@@ -694,6 +853,63 @@ class Mistakes(unittest.TestCase):
             return f"{whole}.{abs(figure) % 10 ** e:0{e}d}" if e else f"{whole}"
 
         self.caught("answer_text", wrong)
+
+
+class SoundingMistakes(Caught, unittest.TestCase):
+    """Mistakes in depths, over the calls of the soundings."""
+
+    results = staticmethod(depths_left)
+
+    @classmethod
+    def setUpClass(cls):
+        cls.inputs = [(data, length) for name, data, length in CALLS if len(data) < 90 or name == "every depth"]
+        cls.right = depths_left(cls.inputs)
+
+    def test_depth(self):
+        right = reference.depth
+
+        def strictly_below(figure, d):
+            return max(h for h, entry in enumerate(reference.TABLE) if entry * d < figure * 1_000 or h == 0)
+
+        self.caught("depth", strictly_below)
+        self.caught("depth", lambda figure, d: right(figure, 1 if figure <= 520 else d))
+        self.caught("depth", lambda figure, d: right(figure // d * d, d))
+        self.caught("depth", lambda figure, d: min(right(figure, d), 255))
+        self.caught("depth", lambda figure, d: right(min(figure + 1, 520 * d), d))
+
+    def test_table(self):
+        for h in (1, 57, 200, 399):
+            for wrong in (-1, 1):
+                self.caught("TABLE", [entry + wrong * (i == h) for i, entry in enumerate(reference.TABLE)], 1)
+        self.caught("TABLE", reference.TABLE[:400])
+        self.caught("TABLE", reference.TABLE + [521_701])
+
+    def test_outside(self):
+        self.caught("outside_table", lambda figure, d: figure < 0 or figure * 1_000 >= 520_000 * d)
+        self.caught("outside_table", lambda figure, d: figure < 0 or figure > 520 * d + 1)
+        self.caught("outside_table", lambda figure, d: figure < 0 or figure > 520_000)
+        self.caught("outside_table", lambda figure, d: figure < 0 or figure * 1_000 % 2 ** 32 > 520_000 * d)
+        self.caught("outside_table", lambda figure, d: not 0 < figure <= 520 * d)
+
+    def test_buffer(self):
+        for least in (14, 15, 17, 180):
+            self.caught("LEAST_DEPTHS_BUFFER", least)
+
+    def test_answer(self):
+        right = reference.depth_bytes
+
+        def turned(result):
+            left = right(result)
+            return b"".join(left[i:i + 2] for i in range(len(left) - 2, -1, -2))
+
+        def met_only(result):
+            if not result.trial.judgement.met:
+                raise reference.Refused(10)
+            return right(result)
+
+        self.caught("depth_bytes", turned)
+        self.caught("depth_bytes", met_only)
+        self.caught("kept_trial", lambda trials: trials[0])
 
 
 if __name__ == "__main__":

@@ -1,11 +1,11 @@
 #!/usr/bin/env python3
-"""Test vectors from the reference: results, printed verdicts and written cases.
+"""Test vectors from the reference: results, printed verdicts, written cases and soundings.
 
-    python3 tools/vectors.py DIR           make the three files in DIR
+    python3 tools/vectors.py DIR           make the four files in DIR
     python3 tools/vectors.py --check DIR   make them again in memory and compare
     python3 tools/vectors.py --stats       print how many vectors there are of each kind
 
-All numbers are big-endian. Three files, each a stream of items without padding.
+All numbers are big-endian. Four files, each a stream of items without padding.
 
 vectors.bin, one item for each call that takes a case and a result buffer:
     2 bytes  length of the input (0 to 400; FFFF ends the stream, nothing follows)
@@ -34,6 +34,16 @@ writes.bin, one item for each call of the case writer:
     2 bytes  the number: the count (24 to 388) or the refusal (1, 4 or 6)
     then     for a count exactly that many bytes, the case
   The buffer holds A5 in every byte before the call, as above.
+
+soundings.bin, one item for each call that takes a case and a buffer for the depths, in
+the form of vectors.bin:
+    2 bytes  length of the input (0 to 400; FFFF ends the stream, nothing follows)
+    then     the input
+    2 bytes  length of the buffer (0 to 17, 128, 180 or 400)
+    1 byte   kind: 0 a count, 1 a refusal
+    2 bytes  the number: the count (2 to 16) or the refusal (1 to 10)
+    then     for a count exactly that many bytes, the depths (2 bytes each)
+  The buffer holds A5 in every byte before the call, as above.
 """
 
 import sys
@@ -41,6 +51,7 @@ from collections import Counter
 
 import families
 import reference
+import sounding_calls
 import stored
 import write_calls
 
@@ -54,7 +65,7 @@ def short(number):
     return number.to_bytes(2, "big")
 
 
-# ---------------------------------------------------------------- the three files
+# ---------------------------------------------------------------- the four files
 
 
 def outcome_bytes(outcome, buffer):
@@ -65,10 +76,11 @@ def outcome_bytes(outcome, buffer):
     return bytes([kind]) + short(outcome.number) + buffer[:beyond]
 
 
-def make_vectors(inputs):
+def make_calls(call, inputs):
+    """An item for each input and buffer length, with what the call leaves."""
     parts = []
     for _, data, length in inputs:
-        outcome, buffer = reference.call(data, length, FILL)
+        outcome, buffer = call(data, length, FILL)
         parts.append(short(len(data)) + data + short(length) + outcome_bytes(outcome, buffer))
     return b"".join(parts) + END_MARK
 
@@ -114,9 +126,10 @@ def make_writes():
 def make_files():
     inputs = families.all_families()
     return {
-        "vectors.bin": make_vectors(inputs),
+        "vectors.bin": make_calls(reference.call, inputs),
         "texts.bin": make_texts(inputs),
         "writes.bin": make_writes(),
+        "soundings.bin": make_calls(reference.call_soundings, sounding_calls.all_calls()),
     }
 
 
@@ -187,21 +200,66 @@ def write_kinds():
     return found
 
 
+def figure_kinds(figure, d):
+    """The kinds under which one answer figure inside the table is counted."""
+    units = {k: (figure + k) * 1_000 for k in (-1, 0, 1)}
+    entries = {entry * d for entry in reference.TABLE}
+    found = [f"depth {h}" for h in (0, 1, 200, 399, 400) if reference.depth(figure, d) == h]
+    found += ["0 kilograms"] if figure == 0 else []
+    found += ["520,000 kilograms"] if units[0] == reference.TABLE[-1] * d else []
+    found += ["an entry exactly"] if units[0] in entries else []
+    found += ["one unit below an entry"] if units[1] in entries else []
+    found += ["one unit above an entry"] if units[-1] in entries else []
+    return [f"{kind}, D {d}" for kind in found]
+
+
+def outside_kinds(answer, d):
+    """The kinds under which an answer is counted of which some figure is outside the table."""
+    places = [i for i, figure in enumerate(answer) if reference.outside_table(figure, d)]
+    found = ["negative"] if any(figure < 0 for figure in answer) else []
+    found += ["one unit above the table"] if 520 * d + 1 in answer else []
+    found += ["several outside"] if len(places) > 1 else []
+    found += ["only later tanks outside"] if places[0] > 0 else []
+    return [f"{kind}, D {d}" for kind in found]
+
+
+def sounding_kinds(data, length):
+    """The kinds under which one call of the soundings is counted."""
+    try:
+        result = reference.work(data, length, reference.LEAST_DEPTHS_BUFFER)
+    except reference.Refused as refused:
+        return [f"refusal {refused.number}"]
+    case, (answer, judgement), _ = result
+    d = reference.scale(case)
+    came = "worked out" if case.rounds else "brought"
+    verdict = "met" if judgement.met else "unmet"
+    if any(reference.outside_table(figure, d) for figure in answer):
+        return ["refusal 10", f"refusal 10, {came}, {verdict}", *outside_kinds(answer, d)]
+    found = {kind for figure in answer for kind in figure_kinds(figure, d)}
+    return ["count", f"count, {came}, {verdict}", f"count, n {case.n}", f"count, D {d}", *sorted(found)]
+
+
 def print_counts(title, counts):
     print(title)
     for kind, count in sorted(counts.items()):
         print(f"  {kind:40}{count:7}")
 
 
+def print_calls(title, inputs, kinds_of):
+    """How many calls there are of each family and, by a function that gives a call's kinds, of each kind."""
+    counts = Counter()
+    for _, data, length in inputs:
+        counts.update(kinds_of(data, length))
+    print_counts(f"{title}, {len(inputs)}, by family", Counter(name for name, _, _ in inputs))
+    print_counts(f"{title} by kind", counts)
+
+
 def print_stats():
     inputs = families.all_families()
     texts = [reference.verdict_text(data) for data in text_inputs(inputs)]
     written_kinds = write_kinds()
-    counts = Counter()
-    for _, data, length in inputs:
-        counts.update(kinds(data, length))
-    print_counts(f"vectors, {len(inputs)}, by family", Counter(name for name, _, _ in inputs))
-    print_counts("vectors by kind", counts)
+    print_calls("vectors", inputs, kinds)
+    print_calls("calls of the soundings", sounding_calls.all_calls(), sounding_kinds)
     print_counts(f"texts, {len(texts)}, by first word", Counter(text.split()[0] for text in texts))
     print_counts(f"calls of the writer, {sum(written_kinds.values())}", written_kinds)
     return 0

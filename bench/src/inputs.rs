@@ -1,7 +1,8 @@
 //! Inputs for the differential test: sound cases of every kind, and spoiled ones.
 
-use crate::coefficients::{coefficients, table, STYLES};
+use crate::coefficients::{coefficients, table, Style, STYLES};
 use crate::corners::{largest_correction, neighbouring_factors, overshooting};
+use crate::entries::near_entries;
 use crate::figures::{
     Figures, List, Table, MOST_ANSWER, MOST_COEFFICIENT, MOST_EXPONENT, MOST_RIGHT_SIDE,
     MOST_ROUNDS,
@@ -10,10 +11,11 @@ use crate::random::Random;
 use crate::spoiling::spoiled;
 use crate::twin::MOST_TANKS;
 
-/// A call's input, and the length of the result buffer that it gets.
+/// A call's input, and the lengths of the result buffers that it gets, for a record and for soundings.
 pub struct Input {
     pub bytes: Vec<u8>,
     pub room: usize,
+    pub soundings_room: usize,
 }
 
 pub fn input(random: &mut Random) -> Input {
@@ -26,6 +28,7 @@ pub fn input(random: &mut Random) -> Input {
     Input {
         bytes,
         room: room(random),
+        soundings_room: soundings_room(random),
     }
 }
 
@@ -38,6 +41,15 @@ fn room(random: &mut Random) -> usize {
     }
 }
 
+/// Short as often as a record's.
+fn soundings_room(random: &mut Random) -> usize {
+    if random.one_in(16) {
+        random.pick(&[0, 1, 2, 4, 8, 14, 15, 15])
+    } else {
+        random.pick(&[16, 16, 17, 18, 19, 20, 32, 180])
+    }
+}
+
 /// The figures of a sound case.
 fn figures(random: &mut Random) -> Figures {
     let mut figures = any_figures(random);
@@ -45,6 +57,7 @@ fn figures(random: &mut Random) -> Figures {
         0..4 => neighbouring_factors(&mut figures, random),
         4..8 => overshooting(&mut figures, random),
         8 => largest_correction(&mut figures, random),
+        9..25 => fill_reference_tanks(&mut figures, random),
         _ => {}
     }
     figures
@@ -74,6 +87,16 @@ fn any_figures(random: &mut Random) -> Figures {
         }
     }
     figures
+}
+
+/// Gives the case an answer near the reference tank's entries. Half of the cases get coefficients by which the rounds find it.
+fn fill_reference_tanks(figures: &mut Figures, random: &mut Random) {
+    if random.one_in(2) {
+        figures.coefficients = coefficients(Style::Dominant, figures.n, random);
+    }
+    let answer = near_entries(figures.n, figures.unit(), random);
+    figures.right_sides = moments(figures, &answer, random);
+    figures.trial = answer;
 }
 
 fn list(n: usize, mut entry: impl FnMut() -> i64) -> List {

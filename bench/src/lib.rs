@@ -1,10 +1,11 @@
 //! A second implementation of the judge ("twin"), and the inputs on which it meets the proved library.
 //!
-//! The twin is written from document 01 alone and shares no code with the library.
+//! The twin is written from documents 01 and 02 alone and shares no code with the library.
 #![forbid(unsafe_code)]
 
 pub mod coefficients;
 pub mod corners;
+pub mod entries;
 pub mod figures;
 pub mod inputs;
 pub mod pool;

@@ -1,20 +1,23 @@
 //! Cases for measuring: sound, refused by neither contestant, and with a known number of rounds.
 
 use crate::coefficients::{coefficients, table, Style};
+use crate::entries::MOST_TONNES;
 use crate::figures::{Figures, MOST_RIGHT_SIDE, MOST_ROUNDS};
 use crate::random::Random;
-use crate::twin::{self, MOST_TANKS, RECORD_ROOM};
+use crate::twin::{self, MOST_TANKS, RECORD_ROOM, SOUNDINGS_ROOM};
 
 pub const POOL_SIZE: usize = 256;
 /// The numbers of tanks and rounds that are measured.
 pub const TANKS: [usize; 4] = [1, 2, 4, 8];
 pub const ROUNDS: [usize; 3] = [0, 1, 8];
+pub const SOUNDINGS_ROUNDS: [usize; 2] = [0, 1];
 
 /// What the pools hold, for a reader of the figures.
 pub const DESCRIPTION: &str = "\
 Cases: half with one large coefficient in each row and column, half with coefficients from the full range; 0 to 3 decimals.
 K = 0 judges the trial that 8 rounds work out; K = 1 has one round; both have tolerances from zero to small.
-K = 8 really uses all 8 rounds: the tolerances are zero, or 1 on the right side only, and no round's answer is met.";
+K = 8 really uses all 8 rounds: the tolerances are zero, or 1 on the right side only, and no round's answer is met.
+For soundings every answer is one that the reference tank holds, from 0 to 520 tonnes.";
 
 pub struct Entry {
     pub figures: Figures,
@@ -23,11 +26,33 @@ pub struct Entry {
 
 /// The pool of one cell; it depends on nothing but these three numbers.
 pub fn pool(n: usize, rounds: usize, seed: u64) -> Vec<Entry> {
-    let mut random = Random::new(seed ^ ((n as u64) << 32) ^ ((rounds as u64) << 40));
+    let mut random = cell_random(n, rounds, seed);
+    filled(|place| accepted(candidate(n, rounds, place, &mut random)))
+}
+
+/// The pool of one cell for soundings; it depends on nothing but these three numbers.
+pub fn soundings_pool(n: usize, rounds: usize, seed: u64) -> Vec<Entry> {
+    let mut random = cell_random(n, rounds, seed);
+    filled(|place| {
+        let mut figures = candidate(n, rounds, place, &mut random);
+        let tonnes = [(); MOST_TANKS].map(|_| random.between(0, MOST_TONNES));
+        for i in 0..n {
+            figures.right_sides[i] = moment(&figures.coefficients[i], &tonnes);
+        }
+        accepted(figures)
+            .filter(|entry| twin::soundings(&entry.bytes, &mut [0; SOUNDINGS_ROOM]).is_ok())
+    })
+}
+
+fn cell_random(n: usize, rounds: usize, seed: u64) -> Random {
+    Random::new(seed ^ ((n as u64) << 32) ^ ((rounds as u64) << 40))
+}
+
+/// As many entries as a pool has, each for its place; what yields none is tried again.
+fn filled(mut entry: impl FnMut(usize) -> Option<Entry>) -> Vec<Entry> {
     let mut entries = Vec::with_capacity(POOL_SIZE);
     while entries.len() < POOL_SIZE {
-        let figures = candidate(n, rounds, entries.len(), &mut random);
-        entries.extend(accepted(figures));
+        entries.extend(entry(entries.len()));
     }
     entries
 }
@@ -60,6 +85,12 @@ fn right_side(coefficients: &[i64], random: &mut Random) -> i64 {
         .map(|coefficient| coefficient * random.within(3000))
         .sum();
     (sum + random.within(99)).clamp(-MOST_RIGHT_SIDE, MOST_RIGHT_SIDE)
+}
+
+/// The moment of these tonnes.
+fn moment(coefficients: &[i64], tonnes: &[i64]) -> i64 {
+    let terms = coefficients.iter().zip(tonnes);
+    terms.map(|(coefficient, y)| coefficient * y).sum()
 }
 
 /// The candidate with its trial, if it brings one, provided that it is finished in the way the description says.

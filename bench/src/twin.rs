@@ -6,11 +6,12 @@ mod reading;
 mod record;
 mod refinement;
 mod rounding;
+mod soundings;
 
 use reading::Case;
 use refinement::Answer;
 
-/// A number from document 01, "Refused, in this order".
+/// A number from document 01, "Refused, in this order", or from a request of document 02.
 pub type Refusal = u8;
 
 pub const BUFFER_TOO_SHORT: Refusal = 1;
@@ -22,12 +23,14 @@ pub const OUTSIDE_LIMITS: Refusal = 6;
 pub const TRAILING_BYTES: Refusal = 7;
 pub const ZERO_PIVOT: Refusal = 8;
 pub const OUTSIDE_RANGE: Refusal = 9;
+pub const OUTSIDE_TABLE: Refusal = 10;
 
 pub const MOST_TANKS: usize = 8;
 pub const RECORD_ROOM: usize = record::length(MOST_TANKS);
+pub const SOUNDINGS_ROOM: usize = soundings::length(MOST_TANKS);
 
 /// Reads the case and returns its number of tanks.
-// Never inlined, like the next one: the library's functions are calls too.
+// Never inlined, like the next ones: the library's functions are calls too.
 #[inline(never)]
 pub fn check_case(input: &[u8]) -> Result<usize, Refusal> {
     let mut case = Case::EMPTY;
@@ -48,4 +51,21 @@ pub fn judge_case(input: &[u8], out: &mut [u8]) -> Result<usize, Refusal> {
         answer.refine(&case)?;
     }
     Ok(record::write(case.n, &answer, out))
+}
+
+/// Leaves each tank's depth at the front of `out` and returns their length. A refusal leaves `out` as it was.
+#[inline(never)]
+pub fn soundings(input: &[u8], out: &mut [u8]) -> Result<usize, Refusal> {
+    if out.len() < SOUNDINGS_ROOM {
+        return Err(BUFFER_TOO_SHORT);
+    }
+    let mut case = Case::EMPTY;
+    case.read(input)?;
+    // A brought trial is taken as it is: no depth asks for its judgement.
+    if case.rounds == 0 {
+        return soundings::write(case.trial(), case.unit, out);
+    }
+    let mut answer = Answer::start(&case);
+    answer.refine(&case)?;
+    soundings::write(&answer.figures[..case.n], case.unit, out)
 }

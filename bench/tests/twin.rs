@@ -1,7 +1,7 @@
-//! The twin against document 01's trials at the edges and the repository's samples.
+//! The twin against document 01's trials at the edges, document 02's reference tank and the repository's samples.
 
 use bench::figures::Figures;
-use bench::twin::{check_case, judge_case, RECORD_ROOM};
+use bench::twin::{check_case, judge_case, soundings, MOST_TANKS, RECORD_ROOM, SOUNDINGS_ROOM};
 use std::fmt::Write;
 use std::fs;
 use std::path::Path;
@@ -246,4 +246,139 @@ fn samples() {
         }
     }
     assert!(count > 0, "no samples found");
+}
+
+/// The depths in centimetres, as document 02 gives them.
+fn depths(case: &[u8]) -> Result<Vec<u16>, u8> {
+    let mut bytes = [0xA5; SOUNDINGS_ROOM];
+    let length = soundings(case, &mut bytes)?;
+    let pairs = bytes[..length].chunks_exact(2);
+    Ok(pairs
+        .map(|pair| u16::from_be_bytes([pair[0], pair[1]]))
+        .collect())
+}
+
+/// The case that brings this trial. Its rows are not met, which plays no part for depths.
+fn brought(exponent: usize, trial: &[i64]) -> Vec<u8> {
+    let mut figures = Figures {
+        n: trial.len(),
+        exponent,
+        right_sides: [-1; MOST_TANKS],
+        ..Figures::default()
+    };
+    figures.trial[..trial.len()].copy_from_slice(trial);
+    figures.encode()
+}
+
+/// The reference tank's entry, in kilograms.
+fn entry(h: u16) -> i64 {
+    900 * i64::from(h) + i64::from(h) * i64::from(h)
+}
+
+#[test]
+fn every_answer_inside_the_table() {
+    for exponent in 0..4 {
+        let unit = 10_i64.pow(exponent as u32);
+        let answers: Vec<i64> = (0..=520 * unit).collect();
+        let mut due = 0;
+        for trial in answers.chunks(MOST_TANKS) {
+            let found = depths(&brought(exponent, trial)).unwrap();
+            assert_eq!(found.len(), trial.len());
+            for (y, depth) in trial.iter().zip(found) {
+                while due < 400 && entry(due + 1) * unit <= y * 1000 {
+                    due += 1;
+                }
+                assert_eq!(depth, due, "{y} / {unit}");
+            }
+        }
+        assert_eq!(due, 400);
+    }
+}
+
+#[test]
+fn depths_at_the_edges() {
+    for (exponent, y, expected) in [
+        (3, 0, Ok(0)),
+        (3, 900, Ok(0)),
+        (3, 901, Ok(1)),
+        (3, 518_300, Ok(398)),
+        (3, 518_301, Ok(399)),
+        (3, 519_999, Ok(399)),
+        (3, 520_000, Ok(400)),
+        (3, 520_001, Err(10)),
+        (3, -1, Err(10)),
+        (2, 90, Ok(0)),
+        (2, 91, Ok(1)),
+        (2, 910, Ok(10)),
+        (2, 52_000, Ok(400)),
+        (2, 52_001, Err(10)),
+        (1, 90, Ok(9)),
+        (1, 91, Ok(10)),
+        (1, 5_200, Ok(400)),
+        (1, 5_201, Err(10)),
+        (0, 99, Ok(99)),
+        (0, 100, Ok(100)),
+        (0, 219, Ok(199)),
+        (0, 220, Ok(200)),
+        (0, 520, Ok(400)),
+        (0, 521, Err(10)),
+        (0, -1, Err(10)),
+        (0, 10_000_000, Err(10)),
+        (0, -10_000_000, Err(10)),
+    ] {
+        let found = depths(&brought(exponent, &[y]));
+        assert_eq!(found, expected.map(|depth| vec![depth]), "{y}, {exponent}");
+    }
+}
+
+#[test]
+fn depths_of_an_answer_worked_out() {
+    assert_eq!(depths(&two_tanks([[0, 1], [1, 0]], [5, 7])), Ok(vec![7, 5]));
+    // not met, and the answer is 0.3 or 333.3 tonnes all the same
+    assert_eq!(depths(&one_tank(1, 1, 3, 0, 1, 0, 0)), Ok(vec![0]));
+    assert_eq!(depths(&one_tank(1, 1, 3, 0, 1000, 0, 0)), Ok(vec![281]));
+    assert_eq!(depths(&one_tank(1, 1, 5, 0, -2, 0, 0)), Err(10));
+    assert_eq!(depths(&one_tank(0, 1, 1, 0, 521, 0, 0)), Err(10));
+}
+
+#[test]
+fn soundings_are_refused_in_order() {
+    let outside = brought(0, &[-1]);
+    for room in 0..SOUNDINGS_ROOM {
+        assert_eq!(
+            soundings(&outside, &mut [0; SOUNDINGS_ROOM][..room]),
+            Err(1)
+        );
+        assert_eq!(soundings(&[], &mut [0; SOUNDINGS_ROOM][..room]), Err(1));
+    }
+    let longer = [&outside[..], &[0]].concat();
+    let cut = &outside[..outside.len() - 4];
+    let mut out = [0xA5; 32];
+    for (case, expected) in [
+        (vec![], 2),
+        (vec![2, 0, 3], 3),
+        (vec![1, 0, 4], 4),
+        (cut.to_vec(), 5),
+        (brought(0, &[-10_000_001]), 6),
+        (longer, 7),
+        (two_tanks([[1, 1], [1, 1]], [5, 7]), 8),
+        (one_tank(0, 1, 1, 0, 1_000_000_000, 0, 0), 9),
+        (outside, 10),
+    ] {
+        assert_eq!(soundings(&case, &mut out), Err(expected));
+        assert_eq!(out, [0xA5; 32]);
+    }
+}
+
+#[test]
+fn a_later_tank_outside_the_table_leaves_the_buffer() {
+    let mut out = [0xA5; 32];
+    for last in [-1, 521] {
+        let case = brought(0, &[7, 5, last]);
+        assert_eq!(soundings(&case, &mut out), Err(10));
+        assert_eq!(out, [0xA5; 32]);
+    }
+    assert_eq!(soundings(&brought(0, &[7, 5, 520]), &mut out), Ok(6));
+    assert_eq!(out[..6], [0, 7, 0, 5, 1, 0x90]);
+    assert_eq!(out[6..], [0xA5; 26]);
 }

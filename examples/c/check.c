@@ -14,6 +14,7 @@ _Static_assert(BALLAST_RESIDUAL_AT(5, 0) == BALLAST_ANSWER_AT(5) + 3, "the rows 
 _Static_assert(BALLAST_REACH_AT(5, 4) == BALLAST_RESIDUAL_AT(5, 4) + 8, "a row's reach is behind its residual");
 _Static_assert(BALLAST_NONE_AT(5) == BALLAST_REACH_AT(5, 4) + 8 + 3, "the factor is behind the rows");
 _Static_assert(BALLAST_RECORD_LENGTH(5) == BALLAST_DECIDES_AT(5) + 1 + 3, "the end is behind the factor");
+_Static_assert(BALLAST_SOUNDINGS_ROOM == BALLAST_DEPTH_AT(BALLAST_MOST_TANKS), "a depth for each of the most tanks");
 _Static_assert(BALLAST_CASE_ROOM == 6 + BALLAST_MOST_TANKS * (11 + 4 * BALLAST_MOST_TANKS) + (3 + 4 * BALLAST_MOST_TANKS) + 3, "the longest case");
 
 enum { ROOM = 1000, FILLER = 0xA5 };
@@ -85,10 +86,56 @@ static void check_judging(void)
     expect(untouched(out, sizeof record), "bytes beyond the record stay");
 }
 
+/* Two tanks with a trial in tonnes. Its rows are not met, which plays no part for soundings. */
+static size_t write_trial(int32_t first, int32_t second, uint8_t *out)
+{
+    const int16_t coefficients[4] = {1, 0, 0, 1};
+    const uint16_t tolerances[4] = {0};
+    const int32_t right_sides[2] = {-1, -1};
+    const uint32_t right_tolerances[2] = {0};
+    const int32_t trial[2] = {first, second};
+    int64_t length = ballast_write_case(2, 0, 0, coefficients, 4, tolerances, 4, right_sides, 2, right_tolerances, 2, trial, 2,
+                                        out, BALLAST_CASE_ROOM);
+    expect(length > 0, "a trial of two tanks is written");
+    return (size_t)length;
+}
+
+static void check_refused_soundings(void)
+{
+    uint8_t input[BALLAST_CASE_ROOM];
+    uint8_t *out = fresh();
+    size_t length = write_trial(7, 520, input);
+    expect(ballast_soundings(input, length, out, BALLAST_SOUNDINGS_ROOM - 1) == BALLAST_BUFFER_TOO_SHORT, "a buffer of 15 bytes is refused");
+    expect(ballast_soundings(NULL, 0, out, BALLAST_SOUNDINGS_ROOM) == BALLAST_FIELD_MISSING, "an empty input has no soundings");
+    expect(ballast_soundings(input, length - 1, out, ROOM) == BALLAST_FIELD_MISSING, "a cut case has no soundings");
+    length = write_trial(7, 521, input);
+    expect(ballast_soundings(input, length, out, ROOM) == BALLAST_OUTSIDE_TABLE, "521 tonnes are above the table");
+    expect(ballast_soundings(input, length, out, BALLAST_SOUNDINGS_ROOM - 1) == BALLAST_BUFFER_TOO_SHORT, "a short buffer is refused first");
+    length = write_trial(7, -1, input);
+    expect(ballast_soundings(input, length, out, BALLAST_SOUNDINGS_ROOM) == BALLAST_OUTSIDE_TABLE, "a negative answer has no depth");
+    expect(untouched(out, 0), "refused soundings change no byte");
+}
+
+static void check_soundings(void)
+{
+    static const uint8_t depths[] = {0, 7, 400 >> 8, 400 & 0xFF};
+    uint8_t input[BALLAST_CASE_ROOM];
+    size_t length = write_trial(7, 520, input);
+    uint8_t *out = fresh();
+    expect(ballast_soundings(input, length, out, BALLAST_SOUNDINGS_ROOM) == sizeof depths, "the soundings of two tanks have 4 bytes");
+    expect(memcmp(out, depths, sizeof depths) == 0, "7 and 400 cm");
+    expect(out[BALLAST_DEPTH_AT(0) + 1] == 7 && out[BALLAST_DEPTH_AT(1)] == 1, "the places of the depths");
+    expect(untouched(out, sizeof depths), "bytes beyond the depths stay");
+    out = fresh();
+    expect(ballast_soundings(input, length, out, ROOM) == sizeof depths, "a longer buffer is taken");
+    expect(untouched(out, sizeof depths), "bytes beyond the depths stay in it too");
+}
+
 static void check_nothing(void)
 {
     expect(ballast_check_case(NULL, 0) == BALLAST_FIELD_MISSING, "no input is refused by reading");
     expect(ballast_judge_case(NULL, 0, NULL, 0) == BALLAST_BUFFER_TOO_SHORT, "no buffer is refused by judging");
+    expect(ballast_soundings(NULL, 0, NULL, 0) == BALLAST_BUFFER_TOO_SHORT, "no buffer is refused by soundings");
     expect(ballast_verdict_text(NULL, 0, NULL, 0) == BALLAST_BUFFER_TOO_SHORT, "no buffer is refused by printing");
     expect(ballast_write_case(1, 0, 1, NULL, 0, NULL, 0, NULL, 0, NULL, 0, NULL, 0, NULL, 0) == BALLAST_BUFFER_TOO_SHORT,
            "no buffer is refused by writing");
@@ -122,6 +169,8 @@ int main(int count, char **names)
 {
     check_writing();
     check_judging();
+    check_refused_soundings();
+    check_soundings();
     check_nothing();
     for (int i = 1; i + 1 < count; i += 2)
         check_sample(names[i], names[i + 1]);

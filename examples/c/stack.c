@@ -19,6 +19,7 @@ static ucontext_t here, there;
 static void nothing(void) {}
 static void check(void) { ballast_check_case(input, input_length); }
 static void judge(void) { ballast_judge_case(input, input_length, out, sizeof out); }
+static void sound(void) { ballast_soundings(input, input_length, out, sizeof out); }
 static void print(void) { ballast_verdict_text(input, input_length, out, sizeof out); }
 
 /* Rows 1 and 2 have the residuals F60 and F59 and the reaches F61 and F60 of the Fibonacci numbers, the largest that the limits admit: no comparison of
@@ -58,7 +59,7 @@ static size_t most(size_t so_far, void (*call)(void))
 
 static size_t most_of_all(size_t so_far)
 {
-    return most(most(most(so_far, check), judge), print);
+    return most(most(most(most(so_far, check), judge), sound), print);
 }
 
 int main(int count, char **names)

@@ -1,8 +1,8 @@
 //! One contestant on one cell for a given number of calls, so that a profiler counts nothing else.
 //!
-//! `one_call proved|twin judge|read <tanks> <rounds> <calls>`
+//! `one_call proved|twin judge|read|sound <tanks> <rounds> <calls>`
 
-use bench::pool::pool;
+use bench::pool::{pool, soundings_pool};
 use bench::twin::{self, RECORD_ROOM};
 use std::hint::black_box;
 use std::process::exit;
@@ -17,9 +17,16 @@ fn main() {
     let call = match (contestant.as_str(), work.as_str()) {
         ("proved", "judge") => |case: &[u8], out: &mut [u8]| ballast::judge_case(case, out).is_ok(),
         ("proved", "read") => |case: &[u8], _: &mut [u8]| ballast::check_case(case).is_ok(),
+        ("proved", "sound") => |case: &[u8], out: &mut [u8]| ballast::soundings(case, out).is_ok(),
         ("twin", "judge") => |case: &[u8], out: &mut [u8]| twin::judge_case(case, out).is_ok(),
         ("twin", "read") => |case: &[u8], _: &mut [u8]| twin::check_case(case).is_ok(),
+        ("twin", "sound") => |case: &[u8], out: &mut [u8]| twin::soundings(case, out).is_ok(),
         _ => usage(),
+    };
+    let pool = if work == "sound" {
+        soundings_pool
+    } else {
+        pool
     };
     let cases = pool(number(tanks), number(rounds), SEED);
     let mut out = [0; RECORD_ROOM];
@@ -33,6 +40,6 @@ fn number(text: &str) -> usize {
 }
 
 fn usage() -> ! {
-    eprintln!("usage: one_call proved|twin judge|read <tanks> <rounds> <calls>");
+    eprintln!("usage: one_call proved|twin judge|read|sound <tanks> <rounds> <calls>");
     exit(2)
 }

@@ -37,6 +37,7 @@ impl Elimination {
     }
 
     /// All steps.
+    #[inline(always)]
     pub fn finish(&mut self) -> Result<(), Refusal> {
         let working = &mut self.working[..self.n];
         for k in 0..working.len() {
@@ -49,6 +50,7 @@ impl Elimination {
     }
 
     /// The answer's correction for these residuals, which stand in the case's row order.
+    #[inline(always)]
     pub fn correction(&self, residuals: &[i64; MOST_TANKS]) -> Result<[i64; MOST_TANKS], Refusal> {
         let n = self.n;
         let mut z = [0; MOST_TANKS];

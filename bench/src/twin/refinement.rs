@@ -23,6 +23,8 @@ impl Answer {
     }
 
     /// Each round starts from the residuals with which the round before it was judged.
+    // Inlined with its steps, as a lone caller's would be, so that soundings do not slow the record down.
+    #[inline(always)]
     pub fn refine(&mut self, case: &Case) -> Result<(), Refusal> {
         let mut elimination = Elimination::start(case);
         elimination.finish()?;

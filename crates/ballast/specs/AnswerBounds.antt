@@ -1,11 +1,11 @@
--- What holds of every accepted answer: its figures are within their limits, and none is wider than its place in a record. Assumes nothing.
+-- What holds of every accepted answer: its figures have their places and are within their limits, and none is wider than its place in a record. Assumes nothing.
 use Prim.Native.Nat.{ℕ, _^_, _≤_, _<_}
 use lib.IntN.{pos, natAbs}
-use lib.ListN.{getD}
+use lib.ListN.{length, getD}
 use mathlib.Core.List.{List}
 use mathlib.Core.Path.{_≡_, sym, ap, _∙_}
 use native.Mathlib.Omega.{arith}
-use Rattle.limits.specs.Limits.{mostExponent, trialLimit}
+use Rattle.limits.specs.Limits.{mostTanks, mostExponent, trialLimit}
 use Rattle.judge.specs.Agreement.{judgement-agrees}
 use Rattle.judge.specs.Finding.{Agrees, finding}
 use Rattle.judge.specs.System.{System, Trial, trial}
@@ -15,6 +15,7 @@ use Rattle.outcome.specs.declared.Status.the-variants.{Accepted}
 use Rattle.casefile.specs.Case.{Case}
 use Rattle.casefile.specs.CaseLaws.{Good, decode-good}
 use Rattle.casefile.specs.Decode.{decode}
+use Rattle.casefile.specs.StoredLaws.{length-padded}
 use Rattle.recordfile.specs.Layout.{longestRecord, Recordable}
 use Rattle.ballast.specs.Bounds.{limits, ranges, reach-le}
 use Rattle.ballast.specs.Call.{Answer, scaleOf, systemOf, caseSolution, inPlaces, answerWith, answerOf}
@@ -24,6 +25,7 @@ use Rattle.ballast.specs.Theorem.{placed-answer, recordable}
 pub record AnswerBounded (x : Answer) : Type 0 where
   pub recordable : Recordable (x .n) (x .solution .rounds) (x .solution .judgement)
   pub exponent-small : x .exponent ≤ mostExponent
+  pub places : x .n ≤ length (x .solution .trial)
   pub figures : (j : ℕ) → natAbs (getD (x .solution .trial) j (pos 0)) ≤ trialLimit
   pub residuals : (i : ℕ) → i < x .n → natAbs (getD (x .solution .judgement .residuals) i (pos 0)) < 2 ^ 63
   pub reaches : (i : ℕ) → i < x .n → getD (x .solution .judgement .reaches) i 0 < 256 ^ 8
@@ -48,6 +50,7 @@ module _ (c : Case) (g : Good c) where
       record {
         recordable = f .figures;
         exponent-small = g .limits .exponent-small;
+        places = omega (arith, g .limits .small, length-padded (pos 0) mostTanks (caseSolution c .trial));
         figures = y;
         residuals = λ i h. rw (agrees e .R i h) (omega (arith, residual-le s (scaleOf (c .exponent)) (a .trial) (limits c g) (ranges c g) y i));
         reaches = λ i h. rw (agrees e .T i h) (reach-le c g (a .trial) y i);

@@ -20,6 +20,8 @@ use Rattle.case_reader.specs.ReadLaws.{CaseHeld}
 use Rattle.case_reader.specs.declared.CaseHead.{CaseHead}
 use Rattle.ballast.specs.Demand.{Promise}
 use Rattle.ballast.specs.Theorem.{count-le}
+use Rattle.soundings.specs.SoundedLaws.{soundings-count-le}
+use Rattle.soundings.specs.Soundings.{soundingsResult}
 use Rattle.report.specs.Text.{textRoom}
 use Rattle.verdict_text.specs.Verdict.{textCall}
 use Rattle.verdict_text.specs.VerdictLaws.{text-count-le}
@@ -81,3 +83,9 @@ module _ (c : Case) (entry exit : List ℕ) (o : Outcome) (p : callResult o exit
 pub text-small : (input entry exit : List ℕ) (o : Outcome) → callResult o exit ≡ textCall input entry → CountFits o
 text-small input entry exit o p =
     record { count = λ m e. omega (arith, text-count-le input entry m (ap (λ x. x .outcome) (sym p) ∙ ap reportedOutcome e)) }
+
+-- ---- soundings
+
+pub soundings-small : (input entry exit : List ℕ) (o : Outcome) → callResult o exit ≡ soundingsResult input entry → CountFits o
+soundings-small input entry exit o p =
+    record { count = λ m e. omega (arith, soundings-count-le input entry m (ap (λ x. x .outcome) (sym p) ∙ ap reportedOutcome e)) }

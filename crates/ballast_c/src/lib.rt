@@ -3,6 +3,7 @@ ghost use mathlib.Core.Path.{_≡_};
 ghost use Rattle.casefile.specs.Case.{caseOfLists};
 ghost use Rattle.casefile.specs.Decode.{decode};
 ghost use Rattle.casefile.specs.Write.{write};
+ghost use Rattle.soundings.specs.Soundings.{soundingsResult};
 ghost use Rattle.verdict_text.specs.Verdict.{textCall};
 ghost use Rattle.ballast_c.specs.Calls.{tankCount, Judged};
 ghost use Rattle.ballast_c.specs.Result.{resultNumber, CountFits, Returned};
@@ -53,6 +54,14 @@ pub extern "C" fn ballast_judge_case(input: &[u8], out: &mut [u8]) -> i64
     ensures { λ r. ⌜ Judged (now (input .entry)) (now (out .entry)) r (now (out .exit)) ⌝ }
 {
     result(ballast::judge_case(input, out))
+}
+
+// Writes the depths of a case's answer into a buffer.
+#[no_mangle]
+pub extern "C" fn ballast_soundings(input: &[u8], out: &mut [u8]) -> i64
+    ensures { λ r. ⌜ Returned r (now (out .exit)) (soundingsResult (now (input .entry)) (now (out .entry))) ⌝ }
+{
+    result(soundings::soundings(input, out))
 }
 
 // Renders the printed verdict of a case into a buffer.

@@ -1,9 +1,10 @@
 -- Tests of every element of a list: of its parts, of two lists put together, and at every place. Assumes nothing.
-use Prim.Native.Nat.{ℕ, zero, suc}
-use lib.ListN.{getD, take, drop}
-use mathlib.Core.Bool.{Bool, true, false, false≢true, _&&_, and-assoc}
+use Prim.Native.Nat.{ℕ, zero, suc, _<_}
+use lib.ListN.{length, getD, take, drop}
+use mathlib.Core.Bool.{Bool, true, false, true≢false, false≢true, _&&_, and-assoc}
 use mathlib.Core.List.{List, [], _∷_, _++_}
 use mathlib.Core.Path.{_≡_, refl, sym}
+use native.Mathlib.Omega.{arith}
 use Rattle.buffer.specs.Buffer.{all}
 
 pub and-true : (a b : Bool) → (a && b) ≡ true → (a ≡ true) × (b ≡ true)
@@ -45,3 +46,18 @@ module _ {X : Type 0} (p : X → Bool) where
   all-at d e [] h i = e
   all-at d e (x ∷ l) h zero = and-true (p x) (all p l) h .0
   all-at d e (x ∷ l) h (suc i) = all-at d e l (and-true (p x) (all p l) h .1) i
+
+  -- where not every element passes, there is a place of one that does not
+  pub record Failing (d : X) (l : List X) : Type 0 where
+    pub place : ℕ
+    pub inside : place < length l
+    pub fails : p (getD l place d) ≡ false
+
+  pub all-fails : (d : X) (l : List X) → all p l ≡ false → Failing d l
+  unfolding all
+  all-fails d [] e = absurd (true≢false e)
+  all-fails d (x ∷ l) e = go (p x) refl (all-fails d l)
+    where
+      go : (b : Bool) → p x ≡ b → (all p l ≡ false → Failing d l) → Failing d (x ∷ l)
+      go false q r = record { place = 0; inside = omega arith; fails = q }
+      go true q r = let f = r (rw q at e) in record { place = suc (f .place); inside = omega (arith, f .inside); fails = f .fails }

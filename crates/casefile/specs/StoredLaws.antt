@@ -2,7 +2,7 @@
 -- And that what is promised of a reading is the reading. Assumes nothing.
 use Prim.Native.Nat.{ℕ, zero, suc, _+_, _≤_}
 use borrow.Author.Tests.{leb-true, le-leb}
-use lib.ListN.{length, getD, drop, replicate}
+use lib.ListN.{length, getD, drop, replicate, length-append, length-drop, length-replicate}
 use lib.Seq.{getD-drop}
 use mathlib.Core.List.{List, [], _∷_, _++_}
 use mathlib.Core.Path.{_≡_, refl, ap₂, _∙_}
@@ -26,6 +26,10 @@ module _ {X : Type 0} (z : X) where
   pub getD-padded : (k : ℕ) (l : List X) (i : ℕ) → getD (padded k z l) i z ≡ getD l i z
   getD-padded k l i =
       behind l (drop (length l) (replicate k z)) (λ j. getD-drop (length l) (replicate k z) j z ∙ same-at z k (length l + j)) i
+
+  -- the places are there, whatever the list has
+  pub length-padded : (k : ℕ) (l : List X) → k ≤ length (padded k z l)
+  length-padded k l = simp (length-append, length-drop, length-replicate) (omega arith)
 
 -- each figure of a padded list is within the limit that the list's are, by the size that the limit is of
 pub padded-within : {X : Type 0} (size : X → ℕ) (z : X) → size z ≡ 0 → (k limit : ℕ) {m : ℕ} {l : List X} → Sound (λ x. upToLimit limit (size x)) m l

@@ -7,7 +7,7 @@ use mathlib.Core.List.{List, [], _∷_}
 use Rattle.outcome.specs.declared.Outcome.{Outcome}
 use Rattle.outcome.specs.declared.Outcome.the-variants.{Count, Refused as RefusedBy}
 use Rattle.outcome.specs.declared.Refusal.{Refusal}
-use Rattle.outcome.specs.declared.Refusal.the-variants.{BufferTooShort, FieldMissing, WrongTag, WrongLength, ValueCutShort, OutsideLimits, TrailingBytes, ZeroPivot, OutsideRange}
+use Rattle.outcome.specs.declared.Refusal.the-variants.{BufferTooShort, FieldMissing, WrongTag, WrongLength, ValueCutShort, OutsideLimits, TrailingBytes, ZeroPivot, OutsideRange, OutsideTable}
 use Rattle.outcome.specs.declared.Status.{Status}
 use Rattle.outcome.specs.declared.Status.the-variants.{Accepted, Refused}
 
@@ -22,6 +22,8 @@ numberOf OutsideLimits = 6
 numberOf TrailingBytes = 7
 numberOf ZeroPivot = 8
 numberOf OutsideRange = 9
+-- document 02, "Soundings for the mate": "It refuses, with 10 and after 1 to 9"
+numberOf OutsideTable = 10
 
 -- the refusals in the order of their numbers
 abbrev pub refusals : List Refusal
@@ -35,11 +37,12 @@ refusals =
     ∷ TrailingBytes
     ∷ ZeroPivot
     ∷ OutsideRange
+    ∷ OutsideTable
     ∷ []
 
 -- the refusal that has a number; of those that none has, 0 goes to the first and the others to the last
 abbrev pub refusalOf : ℕ → Refusal
-refusalOf k = getD refusals (k - 1) OutsideRange
+refusalOf k = getD refusals (k - 1) OutsideTable
 
 -- "Every outcome says whether its number is a count or a refusal": whether it refuses, and its number
 abbrev pub refuses : Outcome → Bool

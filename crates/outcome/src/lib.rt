@@ -2,7 +2,7 @@
 ghost use mathlib.Core.Path.{_≡_};
 ghost use Rattle.outcome.specs.Outcome.{numberOf, statusNumber, check as checked};
 
-// Document 01, "Refused, in this order".
+// Document 01, "Refused, in this order", and document 02's refusal of soundings behind them.
 pub enum Refusal {
     BufferTooShort,
     FieldMissing,
@@ -13,6 +13,7 @@ pub enum Refusal {
     TrailingBytes,
     ZeroPivot,
     OutsideRange,
+    OutsideTable,
 }
 
 // The answer of a call that writes: how many bytes, or why none.
@@ -41,6 +42,7 @@ pub fn number(refusal: Refusal) -> u8
         Refusal::TrailingBytes => 7,
         Refusal::ZeroPivot => 8,
         Refusal::OutsideRange => 9,
+        Refusal::OutsideTable => 10,
     }
 }
 

@@ -1,22 +1,22 @@
-// Runs the call on the inputs of vectors.bin, the printed verdict on those of texts.bin and the case writer on the figures of writes.bin, and compares
-// what they do with the results of a second implementation that stand there.
+// Runs the call on the inputs of vectors.bin, soundings on those of soundings.bin, the printed verdict on those of texts.bin and the case writer on the
+// figures of writes.bin, and compares what they do with the results of a second implementation that stand there.
 //
-// All numbers are big-endian. A file is a stream of results. In vectors.bin and texts.bin each begins with
+// All numbers are big-endian. A file is a stream of results. In vectors.bin, soundings.bin and texts.bin each begins with
 //     2 bytes  the length of the input, at most 400, or FFFF at the end of the stream
 //     then     the input
 // and in writes.bin with
 //     3 bytes  n, e and K, or FFFFFF at the end of the stream; no call begins FFFF
 //     then     five lists, each with one byte for its count, at most 80, and its figures: coefficients and their tolerances of 2 bytes, right sides,
 //              their tolerances and the trial of 4 bytes
-// In vectors.bin and writes.bin there follows
+// In vectors.bin, soundings.bin and writes.bin there follows
 //     2 bytes  the length of the result buffer, at most 512
 //     1 byte   0 for a count, 1 for a refusal
 //     2 bytes  the count, or the refusal's number
-//     then     for a count, the record or the case
+//     then     for a count, the record, the depths or the case
 // and in texts.bin
 //     2 bytes  the length of the printed text, at most 800
 //     then     the text
-// Every byte of the result buffer is A5 before the call, and so is every byte beyond the record, case or text after it, or every byte after a refusal.
+// Every byte of the result buffer is A5 before the call, and so is every byte beyond the record, depths, case or text after it, or every byte after a refusal.
 ghost use Prim.Native.Nat.{_≤_};
 use libc::STDOUT_FILENO;
 use outcome::Outcome;
@@ -52,9 +52,10 @@ const REFUSAL: u8 = 1;
 // More results than any file has, so that the run ends on every file.
 const MOST_RESULTS: u64 = 1000000;
 
-// The three files.
+// The four files.
 enum Stream {
     Records,
+    Soundings,
     Texts,
     Writes,
 }
@@ -148,8 +149,17 @@ fn compare(outcome: Outcome, buffer: &[u8; LONGEST_BUFFER], expected: Expected) 
     agreement(same_buffers(buffer, &after))
 }
 
+// The soundings of an input, or its record.
+fn call(sounded: bool, input: &[u8], out: &mut [u8]) -> Outcome {
+    if sounded {
+        soundings::soundings(input, out)
+    } else {
+        ballast::judge_case(input, out)
+    }
+}
+
 // Calls on the first size bytes of inputs, and compares.
-fn compare_record(fd: i32, inputs: &[u8], size: usize) -> Item {
+fn compare_call(fd: i32, sounded: bool, inputs: &[u8], size: usize) -> Item {
     let expected = read_expected(fd);
     let length = expected.length;
     if !expected.complete {
@@ -162,7 +172,7 @@ fn compare_record(fd: i32, inputs: &[u8], size: usize) -> Item {
         return Item::Malformed;
     }
     let mut buffer = [UNTOUCHED; LONGEST_BUFFER];
-    let outcome = ballast::judge_case(&inputs[..size], &mut buffer[..length]);
+    let outcome = call(sounded, &inputs[..size], &mut buffer[..length]);
     compare(outcome, &buffer, expected)
 }
 
@@ -311,7 +321,7 @@ fn ended(fd: i32) -> Item {
 }
 
 // Reads the next input or the end of the stream.
-fn next_input(fd: i32, texts: bool) -> Item {
+fn next_input(fd: i32, stream: Stream) -> Item {
     let mut head = [0u8; 2];
     if !read_exactly(fd, &mut head) {
         return Item::Malformed;
@@ -324,10 +334,10 @@ fn next_input(fd: i32, texts: bool) -> Item {
     if !read_front(fd, size, &mut inputs) {
         return Item::Malformed;
     }
-    if texts {
-        compare_text(fd, &inputs, size)
-    } else {
-        compare_record(fd, &inputs, size)
+    match stream {
+        Stream::Texts => compare_text(fd, &inputs, size),
+        Stream::Soundings => compare_call(fd, true, &inputs, size),
+        _ => compare_call(fd, false, &inputs, size),
     }
 }
 
@@ -345,9 +355,8 @@ fn next_write(fd: i32) -> Item {
 
 fn next_item(fd: i32, stream: Stream) -> Item {
     match stream {
-        Stream::Records => next_input(fd, false),
-        Stream::Texts => next_input(fd, true),
         Stream::Writes => next_write(fd),
+        _ => next_input(fd, stream),
     }
 }
 
@@ -400,6 +409,9 @@ fn print_kind(stream: Stream) {
         Stream::Records => {
             io::write_all(STDOUT_FILENO, b" results agree");
         }
+        Stream::Soundings => {
+            io::write_all(STDOUT_FILENO, b" soundings agree");
+        }
         Stream::Texts => {
             io::write_all(STDOUT_FILENO, b" printed verdicts agree");
         }
@@ -409,7 +421,7 @@ fn print_kind(stream: Stream) {
     }
 }
 
-// Prints `A of N results agree`, or the same of printed verdicts or written cases, then the number of the first that does not, and the place where a
+// Prints `A of N results agree`, or the same of soundings, printed verdicts or written cases, then the number of the first that does not, and the place where a
 // malformed stream was left.
 fn print(t: Tally, stream: Stream) {
     io::print_decimal(STDOUT_FILENO, t.agree);
@@ -438,6 +450,8 @@ fn run(path: &[u8], stream: Stream) {
 
 fn main() {
     run(b"vectors.bin", Stream::Records);
+    io::write_all(STDOUT_FILENO, b", ");
+    run(b"soundings.bin", Stream::Soundings);
     io::write_all(STDOUT_FILENO, b", ");
     run(b"texts.bin", Stream::Texts);
     io::write_all(STDOUT_FILENO, b", ");

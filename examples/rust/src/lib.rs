@@ -4,6 +4,7 @@
 pub const RECORD_ROOM: usize = 180;
 pub const CASE_ROOM: usize = 388;
 pub const TEXT_ROOM: usize = 800;
+pub const SOUNDINGS_ROOM: usize = 16;
 
 /// In the order in which a case is looked through; what each means stands in the header.
 #[derive(Clone, Copy, Debug, PartialEq, Eq)]
@@ -18,10 +19,11 @@ pub enum Refusal {
     TrailingBytes = 7,
     ZeroPivot = 8,
     OutsideRange = 9,
+    OutsideTable = 10,
 }
 
 impl Refusal {
-    pub const ALL: [Refusal; 9] = [
+    pub const ALL: [Refusal; 10] = [
         Refusal::BufferTooShort,
         Refusal::FieldMissing,
         Refusal::WrongTag,
@@ -31,6 +33,7 @@ impl Refusal {
         Refusal::TrailingBytes,
         Refusal::ZeroPivot,
         Refusal::OutsideRange,
+        Refusal::OutsideTable,
     ];
 
     pub fn number(self) -> u8 {
@@ -55,6 +58,7 @@ mod library {
     extern "C" {
         pub fn ballast_check_case(input: *const u8, length: usize) -> i64;
         pub fn ballast_judge_case(input: *const u8, length: usize, out: *mut u8, room: usize) -> i64;
+        pub fn ballast_soundings(input: *const u8, length: usize, out: *mut u8, room: usize) -> i64;
         pub fn ballast_verdict_text(input: *const u8, length: usize, out: *mut u8, room: usize) -> i64;
         pub fn ballast_write_case(
             n: usize,
@@ -94,6 +98,17 @@ pub fn check_case(input: &[u8]) -> Result<usize, Refusal> {
 pub fn judge_case(input: &[u8], out: &mut [u8]) -> Result<usize, Refusal> {
     // SAFETY: as above; `out` is borrowed alone, so it shares no memory with `input`.
     outcome(unsafe { library::ballast_judge_case(input.as_ptr(), input.len(), out.as_mut_ptr(), out.len()) })
+}
+
+/// Twice the number of tanks, with the tanks' depths, two bytes each, at the front of `out`.
+pub fn soundings(input: &[u8], out: &mut [u8]) -> Result<usize, Refusal> {
+    // SAFETY: as above.
+    outcome(unsafe { library::ballast_soundings(input.as_ptr(), input.len(), out.as_mut_ptr(), out.len()) })
+}
+
+/// The depths in centimetres, tank 1 first, of the bytes that `soundings` wrote.
+pub fn depths(bytes: &[u8]) -> impl Iterator<Item = u16> + '_ {
+    bytes.chunks_exact(2).map(|pair| u16::from_be_bytes([pair[0], pair[1]]))
 }
 
 /// The length of the printed verdict, with the text at the front of `out`.

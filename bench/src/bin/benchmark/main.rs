@@ -5,8 +5,10 @@
 mod lapack;
 mod timing;
 
-use bench::pool::{pool, Entry, DESCRIPTION, POOL_SIZE, ROUNDS, TANKS};
-use bench::twin::{self, RECORD_ROOM};
+use bench::pool::{
+    pool, soundings_pool, Entry, DESCRIPTION, POOL_SIZE, ROUNDS, SOUNDINGS_ROUNDS, TANKS,
+};
+use bench::twin::{self, RECORD_ROOM, SOUNDINGS_ROOM};
 use std::hint::black_box;
 use std::process::exit;
 use timing::{measure, Contestant, Measured, SAMPLES};
@@ -27,6 +29,13 @@ fn main() {
     }
     for n in TANKS {
         print_row("read", n, 1, &measure_reading(&pool(n, 1, seed)));
+    }
+    for rounds in SOUNDINGS_ROUNDS {
+        for n in TANKS {
+            let cases = soundings_pool(n, rounds, seed);
+            check_soundings(&cases);
+            print_row("sound", n, rounds, &measure_sounding(&cases));
+        }
     }
     println!("\nThe largest componentwise backward error that dgesvx reported for these cases: {worst_backward_error:.1e}");
 }
@@ -49,7 +58,9 @@ fn print_conditions(seed: u64) {
     let version = lapack::version();
     println!("{DESCRIPTION}");
     println!("Each cell: {POOL_SIZE} cases (seed {seed}), {SAMPLES} samples of each contestant, taken in turn.");
-    println!("proved  judge_case and check_case of the proved library, from bytes to bytes");
+    println!(
+        "proved  judge_case, check_case and soundings of the proved library, from bytes to bytes"
+    );
     println!("twin    the same in plain Rust without proof, from bytes to bytes");
     println!("dgesvx  LAPACK {version} in double precision, FACT N, TRANS N, one right-hand side: factors, solves, refines as often as it sees fit,");
     println!("        estimates the condition and bounds its errors. It reads and writes no bytes; the figures are converted before the timing,");
@@ -71,6 +82,17 @@ fn check_agreement(cases: &[Entry]) {
             ballast::judge_case(&case.bytes, &mut proved).map_err(ballast::Refusal::number);
         assert_eq!(outcome, twin::judge_case(&case.bytes, &mut twin));
         assert!(outcome.is_ok() && proved == twin, "the records differ");
+    }
+}
+
+/// Both give the same depths for every case.
+fn check_soundings(cases: &[Entry]) {
+    for case in cases {
+        let (mut proved, mut twin) = ([0; SOUNDINGS_ROOM], [0; SOUNDINGS_ROOM]);
+        let outcome =
+            ballast::soundings(&case.bytes, &mut proved).map_err(ballast::Refusal::number);
+        assert_eq!(outcome, twin::soundings(&case.bytes, &mut twin));
+        assert!(outcome.is_ok() && proved == twin, "the depths differ");
     }
 }
 
@@ -125,6 +147,25 @@ fn measure_reading(cases: &[Entry]) -> Vec<Measured> {
         Box::new(|| {
             for case in cases {
                 black_box(twin::check_case(black_box(&case.bytes))).ok();
+            }
+        }),
+    ];
+    measure(&mut contestants, cases.len())
+}
+
+fn measure_sounding(cases: &[Entry]) -> Vec<Measured> {
+    let (mut proved_out, mut twin_out) = ([0; SOUNDINGS_ROOM], [0; SOUNDINGS_ROOM]);
+    let mut contestants: [Contestant; 2] = [
+        Box::new(|| {
+            for case in cases {
+                let (input, out) = (black_box(&case.bytes), black_box(&mut proved_out));
+                black_box(ballast::soundings(input, out)).ok();
+            }
+        }),
+        Box::new(|| {
+            for case in cases {
+                let (input, out) = (black_box(&case.bytes), black_box(&mut twin_out));
+                black_box(twin::soundings(input, out)).ok();
             }
         }),
     ];

@@ -1,0 +1,4 @@
+pub mod Table
+pub mod Depth
+pub mod TableLaws
+pub mod DepthLaws
