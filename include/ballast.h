@@ -1,8 +1,8 @@
 /* Ballast cases, judged exactly. The library is target/staticlib/libballast_c.a; `rt staticlib ballast_c` proves it and writes it, for x86-64.
  *
  * A case is a file of n moment equations over n tanks, with the tolerance of each figure, an exponent e (an answer Y means Y / 10^e tonnes) and
- * the number of rounds, or with 0 rounds a trial answer of its own. A record is the judged answer. Both layouts, byte by byte, are in
- * docs/FORMAT.md.
+ * the number of rounds, or with 0 rounds a trial answer of its own. A record is the judged answer; soundings are the answer's depths in the
+ * reference tank. All three layouts, byte by byte, are in docs/FORMAT.md.
  *
  * Every function here is total: it may be given any lengths and any bytes, and a null pointer where the length is 0. A pointer with a
  * length above 0 points to that many elements and is aligned as its type asks (bytes anywhere, 16-bit figures at even addresses, 32-bit
@@ -32,8 +32,8 @@ extern "C" {
 #define BALLAST_TEXT_ROOM 800     /* no printed verdict is longer, and the shortest buffer for one */
 #define BALLAST_SOUNDINGS_ROOM 16 /* two bytes for each of eight tanks, and the shortest buffer for soundings */
 
-/* Measured and not proved: examples/run calls each function on a painted stack and finds 5,672 bytes changed at most. Where memcpy and memset are bound at their first call, what the loader needs for that comes
- * on top. */
+/* Measured and not proved: examples/run calls each function on a painted stack and finds 5,672 bytes changed at most. Where memcpy and
+ * memset are bound at their first call, what the loader needs for that comes on top. */
 #define BALLAST_STACK_NEED 8192
 
 /* Refusals, in the order in which a case is looked through: the first that applies is the one returned. */

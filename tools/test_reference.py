@@ -1,5 +1,5 @@
 #!/usr/bin/env python3
-"""Tests of the reference against the paper and against exact reasoning of their own.
+"""Tests of the reference against the papers and against exact reasoning of their own.
 
     python3 tools/test_reference.py
 """

@@ -1,4 +1,4 @@
-//! A second implementation of the judge ("twin"), and the inputs on which it meets the proved library.
+//! A second implementation of the calls ("twin"), and the inputs on which it meets the proved library.
 //!
 //! The twin is written from documents 01 and 02 alone and shares no code with the library.
 #![forbid(unsafe_code)]

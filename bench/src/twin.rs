@@ -1,4 +1,4 @@
-//! The judge in plain Rust: the same bytes in, the same record or refusal out, and no proof.
+//! Judge and soundings in plain Rust: the same bytes in, the same record, depths or refusal out, and no proof.
 
 mod elimination;
 mod judging;

@@ -1,4 +1,4 @@
-/* Prints the depths of each case file named on the command line: how far the mate fills each tank, or the refusal. */
+/* Prints, for each case file named on the command line, the depth of each tank, or the refusal. */
 #include <inttypes.h>
 #include <stdio.h>
 

@@ -1,10 +1,10 @@
-//! Depths for the mate, by the reference tank.
+//! Depths in the reference tank.
 
 use super::{Refusal, MOST_TANKS, OUTSIDE_TABLE};
 
 /// Every whole number of centimetres from 0 to 400.
 const DEPTHS: usize = 401;
-/// An entry is 900 + h times its depth h, so none is above this many kilograms a centimetre.
+/// An entry is (900 + h) × h, so none is above this many kilograms a centimetre.
 const MOST_PER_CENTIMETRE: i64 = 1300;
 const KILOGRAMS_IN_TONNE: i64 = 1000;
 

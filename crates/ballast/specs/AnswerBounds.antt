@@ -15,7 +15,7 @@ use Rattle.outcome.specs.declared.Status.the-variants.{Accepted}
 use Rattle.casefile.specs.Case.{Case}
 use Rattle.casefile.specs.CaseLaws.{Good, decode-good}
 use Rattle.casefile.specs.Decode.{decode}
-use Rattle.casefile.specs.StoredLaws.{length-padded}
+use Rattle.casefile.specs.StoredLaws.{padded-places}
 use Rattle.recordfile.specs.Layout.{longestRecord, Recordable}
 use Rattle.ballast.specs.Bounds.{limits, ranges, reach-le}
 use Rattle.ballast.specs.Call.{Answer, scaleOf, systemOf, caseSolution, inPlaces, answerWith, answerOf}
@@ -50,7 +50,7 @@ module _ (c : Case) (g : Good c) where
       record {
         recordable = f .figures;
         exponent-small = g .limits .exponent-small;
-        places = omega (arith, g .limits .small, length-padded (pos 0) mostTanks (caseSolution c .trial));
+        places = omega (arith, g .limits .small, padded-places (pos 0) mostTanks (caseSolution c .trial));
         figures = y;
         residuals = λ i h. rw (agrees e .R i h) (omega (arith, residual-le s (scaleOf (c .exponent)) (a .trial) (limits c g) (ranges c g) y i));
         reaches = λ i h. rw (agrees e .T i h) (reach-le c g (a .trial) y i);

@@ -4,7 +4,7 @@ use lib.IntN.{ℤ}
 use mathlib.Core.List.{List}
 use mathlib.Core.Path.{_≡_, sym, ap, _∙_}
 use native.Mathlib.Omega.{arith}
-use Rattle.outcome.specs.CallResult.{callResult}
+use Rattle.outcome.specs.CallResult.{CallResult, callResult}
 use Rattle.outcome.specs.Laws.{no-count}
 use Rattle.outcome.specs.Outcome.{reportedOutcome}
 use Rattle.outcome.specs.declared.Outcome.{Outcome}
@@ -37,6 +37,10 @@ small-refused r = record { count = λ m e. no-count r m (ap reportedOutcome e) }
 pub small-count : (k : ℕ) → k ≤ textRoom → CountFits (Count k)
 small-count k h = record { count = λ m e. let q : k ≡ m = cc in omega arith }
 
+-- of a call whose every count is within the largest room
+pub call-small : {exit : List ℕ} {w : CallResult} (o : Outcome) → callResult o exit ≡ w → ((m : ℕ) → w .outcome ≡ reportedOutcome (Count m) → m ≤ textRoom) → CountFits o
+call-small o p le = record { count = λ m e. omega (arith, le m (ap (λ x. x .outcome) (sym p) ∙ ap reportedOutcome e)) }
+
 -- ---- reading
 
 pub tanks-refused : (d : Decoded) (r : Refusal) → d ≡ refused r → Refused r ≡ tankCount d
@@ -55,8 +59,7 @@ module _ (input : List ℕ) (r : CaseHead) {before after : CaseLists} (w : CaseH
 
 module _ (input entry exit : List ℕ) (o : Outcome) (p : Promise input entry o exit) where
   pub judged-small : CountFits o
-  judged-small =
-      record { count = λ m e. omega (arith, count-le input entry m (ap (λ w. w .outcome) (sym (p .called)) ∙ ap reportedOutcome e)) }
+  judged-small = call-small o (p .called) (λ m e. omega (arith, count-le input entry m e))
 
   pub judged : (r : ℤ) → r ≡ resultNumber o → Judged input entry r exit
   judged r e =
@@ -69,23 +72,17 @@ module _ (input entry exit : List ℕ) (o : Outcome) (p : Promise input entry o 
 
 module _ (c : Case) (entry exit : List ℕ) (o : Outcome) (p : callResult o exit ≡ write c entry) where
   pub written-small : CountFits o
-  written-small =
-      record {
-        count = λ m e.
-            omega (arith, case-count-le c entry m (ap (λ x. x .outcome) (sym p) ∙ ap reportedOutcome e));
-      }
+  written-small = call-small o p (λ m e. omega (arith, case-count-le c entry m e))
 
   pub written : (r : ℤ) → r ≡ resultNumber o → Returned r exit (write c entry)
   written r e = returned o p r e
 
--- ---- the printed verdict
-
-pub text-small : (input entry exit : List ℕ) (o : Outcome) → callResult o exit ≡ textCall input entry → CountFits o
-text-small input entry exit o p =
-    record { count = λ m e. omega (arith, text-count-le input entry m (ap (λ x. x .outcome) (sym p) ∙ ap reportedOutcome e)) }
-
 -- ---- soundings
 
 pub soundings-small : (input entry exit : List ℕ) (o : Outcome) → callResult o exit ≡ soundingsResult input entry → CountFits o
-soundings-small input entry exit o p =
-    record { count = λ m e. omega (arith, soundings-count-le input entry m (ap (λ x. x .outcome) (sym p) ∙ ap reportedOutcome e)) }
+soundings-small input entry exit o p = call-small o p (λ m e. omega (arith, soundings-count-le input entry m e))
+
+-- ---- the printed verdict
+
+pub text-small : (input entry exit : List ℕ) (o : Outcome) → callResult o exit ≡ textCall input entry → CountFits o
+text-small input entry exit o p = call-small o p (text-count-le input entry)

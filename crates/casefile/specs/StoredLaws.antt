@@ -28,8 +28,8 @@ module _ {X : Type 0} (z : X) where
       behind l (drop (length l) (replicate k z)) (λ j. getD-drop (length l) (replicate k z) j z ∙ same-at z k (length l + j)) i
 
   -- the places are there, whatever the list has
-  pub length-padded : (k : ℕ) (l : List X) → k ≤ length (padded k z l)
-  length-padded k l = simp (length-append, length-drop, length-replicate) (omega arith)
+  pub padded-places : (k : ℕ) (l : List X) → k ≤ length (padded k z l)
+  padded-places k l = simp (length-append, length-drop, length-replicate) (omega arith)
 
 -- each figure of a padded list is within the limit that the list's are, by the size that the limit is of
 pub padded-within : {X : Type 0} (size : X → ℕ) (z : X) → size z ≡ 0 → (k limit : ℕ) {m : ℕ} {l : List X} → Sound (λ x. upToLimit limit (size x)) m l

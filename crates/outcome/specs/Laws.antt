@@ -58,6 +58,10 @@ pub check-accepted : (b : Bool) (r : Refusal) → check b r ≡ Accepted → b �
 check-accepted true r e = refl
 check-accepted false r e = cc
 
+pub check-refused : (b : Bool) (r : Refusal) → check b r ≡ Refused r → b ≡ false
+check-refused true r e = cc
+check-refused false r e = refl
+
 pub first-left : (s t : Status) → first s t ≡ Accepted → s ≡ Accepted
 first-left Accepted t e = refl
 first-left (Refused r) t e = e

@@ -1,5 +1,5 @@
 -- Definitions only.
--- The paper's number of each refusal, of each outcome and of each status, and the first of two checks that refuses.
+-- The papers' number of each refusal, of each outcome and of each status, and the first of two checks that refuses.
 use Prim.Native.Nat.{ℕ, _-_}
 use lib.ListN.{getD}
 use mathlib.Core.Bool.{Bool, true, false}

@@ -1,4 +1,4 @@
-// What a call or a check answers, the number that document 01 gives each refusal, and the answer of a check by one test.
+// What a call or a check answers, the number that the papers give each refusal, and the answer of a check by one test.
 ghost use mathlib.Core.Path.{_≡_};
 ghost use Rattle.outcome.specs.Outcome.{numberOf, statusNumber, check as checked};
 

@@ -14,7 +14,7 @@ use native.Mathlib.Nat.{add-zero, mul-le-mul-right}
 use native.Mathlib.Omega.{arith}
 use Rattle.integers.specs.Diff.{mul-parts}
 use Rattle.integers.specs.Order.{ints, tests, leZ-true}
-use Rattle.sounding_table.specs.Depth.{entryAt, notAbove, greatestBelow, depth, lastEntry, inside, Rising, Searchable}
+use Rattle.sounding_table.specs.Depth.{kilogramsInTonne, entryAt, notAbove, greatestBelow, depth, lastEntry, inside, NonDecreasing, Searchable}
 
 -- ---- the greatest place that passes a test
 
@@ -61,11 +61,11 @@ module _ (table : List ℕ) (D : ℕ) (Y : ℤ) (some : 0 < length table) (first
   depth-below = deepest .below
 
   -- the entry at the depth is not above
-  pub depth-entry : pos (entryAt table (depth table D Y) * D) ≤ℤ (Y *ℤ pos 1000)
+  pub depth-entry : pos (entryAt table (depth table D Y) * D) ≤ℤ (Y *ℤ pos kilogramsInTonne)
   depth-entry = let e = deepest .passes in omega (arith, ints, tests)
 
   -- the next one is, where there is a next one
-  pub depth-next : depth table D Y + 1 < length table → (Y *ℤ pos 1000) <ℤ pos (entryAt table (depth table D Y + 1) * D)
+  pub depth-next : depth table D Y + 1 < length table → (Y *ℤ pos kilogramsInTonne) <ℤ pos (entryAt table (depth table D Y + 1) * D)
   depth-next l = let e = deepest .last (depth table D Y + 1) (omega arith) l in omega (arith, ints, tests)
 
 -- ---- in a table that does not fall, no other depth is so
@@ -74,17 +74,17 @@ more-above : (a b : ℕ) (z : ℤ) → a ≤ b → leZ (pos a) z ≡ false → l
 more-above a b (pos m) l e = lt-leb b m (omega (arith, leb-false a m e))
 more-above a b (negsuc m) l e = refl
 
-module _ {table : List ℕ} (r : Rising table) where
-  rising-le : (i d : ℕ) → i + d < length table → entryAt table i ≤ entryAt table (i + d)
-  rising-le i zero l = rw (add-zero i) (omega arith)
-  rising-le i (suc d) l =
+module _ {table : List ℕ} (r : NonDecreasing table) where
+  ordered-le : (i d : ℕ) → i + d < length table → entryAt table i ≤ entryAt table (i + d)
+  ordered-le i zero l = rw (add-zero i) (omega arith)
+  ordered-le i (suc d) l =
       let q : i + suc d ≡ (i + d) + 1 = omega arith in
-      rw q (omega (arith, rising-le i d (omega arith), r .next (i + d) (omega arith)))
+      rw q (omega (arith, ordered-le i d (omega arith), r .next (i + d) (omega arith)))
 
   module _ (D : ℕ) (Y : ℤ) where
     -- from an entry that is above on, all are
     above-on : (i d : ℕ) → i + d < length table → notAbove D Y (entryAt table i) ≡ false → notAbove D Y (entryAt table (i + d)) ≡ false
-    above-on i d l e = more-above (entryAt table i * D) (entryAt table (i + d) * D) (Y *ℤ pos 1000) (mul-le-mul-right D (rising-le i d l)) e
+    above-on i d l e = more-above (entryAt table i * D) (entryAt table (i + d) * D) (Y *ℤ pos kilogramsInTonne) (mul-le-mul-right D (ordered-le i d l)) e
 
     pub depth-is : (h : ℕ) → h < length table → notAbove D Y (entryAt table h) ≡ true
         → (h + 1 < length table → notAbove D Y (entryAt table (h + 1)) ≡ false) → depth table D Y ≡ h
@@ -108,18 +108,18 @@ module _ (table : List ℕ) (D : ℕ) where
   negative-outside (pos n) t = absurd (omega (arith, ltb-true n 0 t))
   negative-outside (negsuc n) t = refl
 
-  pub from-zero-inside : (Y : ℤ) → ltZ Y (pos 0) ≡ false → leb (natAbs Y * 1000) (lastEntry table * D) ≡ inside table D Y
+  pub from-zero-inside : (Y : ℤ) → ltZ Y (pos 0) ≡ false → leb (natAbs Y * kilogramsInTonne) (lastEntry table * D) ≡ inside table D Y
   from-zero-inside (pos n) t = rw (leb·zero n)
   from-zero-inside (negsuc n) t = no-sign n t
 
-  pub from-zero-above : (Y : ℤ) → ltZ Y (pos 0) ≡ false → (h : ℕ) → leb (entryAt table h * D) (natAbs Y * 1000) ≡ notAbove D Y (entryAt table h)
+  pub from-zero-above : (Y : ℤ) → ltZ Y (pos 0) ≡ false → (h : ℕ) → leb (entryAt table h * D) (natAbs Y * kilogramsInTonne) ≡ notAbove D Y (entryAt table h)
   from-zero-above (pos n) t h = refl
   from-zero-above (negsuc n) t h = no-sign n t
 
 -- an answer that some entry is not above is not negative
 pub from-zero : (D : ℕ) (Y : ℤ) (entry : ℕ) → notAbove D Y entry ≡ true → ltZ Y (pos 0) ≡ false
 from-zero D (pos n) entry e = le-ltb n 0 (omega arith)
-from-zero D (negsuc n) entry e = absurd (omega (arith, leZ-true (pos (entry * D)) (negsuc n *ℤ pos 1000) e, mul-parts (negsuc n) (pos 1000)))
+from-zero D (negsuc n) entry e = absurd (omega (arith, leZ-true (pos (entry * D)) (negsuc n *ℤ pos kilogramsInTonne) e, mul-parts (negsuc n) (pos kilogramsInTonne)))
 
 -- ---- the search by halving: the entry at low is not above, and that at high, where there is one, is
 
@@ -130,21 +130,21 @@ pub record Halving (table : List ℕ) (D : ℕ) (Y : ℤ) (low high : ℕ) : Typ
   pub above : high < length table → notAbove D Y (entryAt table high) ≡ false
 
 pub halving-begun : {table : List ℕ} {D : ℕ} {Y : ℤ} → Searchable table D Y → Halving table D Y 0 (length table)
-halving-begun s = record { between = s .rising .some; inside = omega arith; not-above = s .first; above = λ l. absurd (omega arith) }
+halving-begun s = record { between = s .some; inside = omega arith; not-above = s .first; above = λ l. absurd (omega arith) }
 
 module _ {table : List ℕ} {D : ℕ} {Y : ℤ} {low high : ℕ} (v : Halving table D Y low high) where
   -- an entry between them, tested
-  tested : (m : ℕ) → leb (entryAt table m * D) (natAbs Y * 1000) ≡ notAbove D Y (entryAt table m)
+  tested : (m : ℕ) → leb (entryAt table m * D) (natAbs Y * kilogramsInTonne) ≡ notAbove D Y (entryAt table m)
   tested = from-zero-above table D Y (from-zero D Y (entryAt table low) (v .not-above))
 
-  pub halving-up : (m : ℕ) → m < high → entryAt table m * D ≤ natAbs Y * 1000 → Halving table D Y m high
+  pub halving-up : (m : ℕ) → m < high → entryAt table m * D ≤ natAbs Y * kilogramsInTonne → Halving table D Y m high
   halving-up m l e = record { between = l; inside = v .inside; not-above = sym (tested m) ∙ le-leb _ _ e; above = v .above }
 
-  pub halving-down : (m : ℕ) → low < m → m < high → natAbs Y * 1000 < entryAt table m * D → Halving table D Y low m
+  pub halving-down : (m : ℕ) → low < m → m < high → natAbs Y * kilogramsInTonne < entryAt table m * D → Halving table D Y low m
   halving-down m k l e =
       record { between = k; inside = omega (arith, v .inside); not-above = v .not-above; above = λ _. sym (tested m) ∙ lt-leb _ _ e }
 
-  pub halving-ended : Rising table → high ≤ low + 1 → low ≡ depth table D Y
+  pub halving-ended : NonDecreasing table → high ≤ low + 1 → low ≡ depth table D Y
   halving-ended r l =
       let q : high ≡ low + 1 = omega (arith, v .between) in
       sym (depth-is r D Y low (omega (arith, v .between, v .inside)) (v .not-above) (rw q at (v .above)))

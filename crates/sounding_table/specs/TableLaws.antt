@@ -1,5 +1,5 @@
 -- One test of the whole table gives the rule at each entry; the reference tank does not fall, and its first and last entries. Assumes nothing.
-use Prim.Native.Nat.{ℕ, zero, suc, _+_, _<_}
+use Prim.Native.Nat.{ℕ, zero, suc, _+_, _<_, _≤_}
 use borrow.Author.Tests.{eqb-true}
 use lib.Dec.{eqb}
 use lib.ListN.{length, getD}
@@ -7,11 +7,11 @@ use lib.Seq.{ext-getD}
 use mathlib.Core.Bool.{true}
 use mathlib.Core.List.{List, [], _∷_}
 use mathlib.Core.Path.{_≡_, sym, ap, _∙_}
-use native.Mathlib.Nat.{add-zero, zero-add}
+use native.Mathlib.Nat.{add-zero, zero-add, mul-le-mul}
 use native.Mathlib.Omega.{arith}
 use Rattle.buffer.specs.AllLaws.{and-left, and-right}
 use Rattle.integers.specs.TableLaws.{length-table, getD-table}
-use Rattle.sounding_table.specs.Depth.{entryAt, lastEntry, Rising}
+use Rattle.sounding_table.specs.Depth.{entryAt, lastEntry, NonDecreasing}
 use Rattle.sounding_table.specs.Table.{referenceEntries, referenceEntry, referenceTank, follows, isReferenceTank}
 
 -- ---- from the test to each entry
@@ -47,9 +47,14 @@ reference-entry h l = getD-table referenceEntries referenceEntry h 0 l
 pub reference-last : lastEntry referenceTank ≡ 520000
 reference-last = rw reference-length (reference-entry 400 (omega arith))
 
-pub reference-rising : Rising referenceTank
-reference-rising =
+-- the rule does not fall, so neither does the table
+pub reference-entry-le : (g h : ℕ) → g ≤ h → referenceEntry g ≤ referenceEntry h
+reference-entry-le g h l = omega (arith, mul-le-mul {n₁ = g} {m₁ = g} {n₂ = h} {m₂ = h} l l)
+
+pub reference-ordered : NonDecreasing referenceTank
+reference-ordered =
     record {
-      some = rw reference-length (omega arith);
-      next = λ h l. omega (arith, reference-length, reference-entry h (omega (arith, reference-length)), reference-entry (h + 1) (omega (arith, reference-length)));
+      next = λ h l.
+          let k : h + 1 < referenceEntries = omega (arith, reference-length) in
+          rw (reference-entry h (omega arith), reference-entry (h + 1) k) (reference-entry-le h (h + 1) (omega arith));
     }

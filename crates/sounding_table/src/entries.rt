@@ -1,9 +1,9 @@
-// The reference tank's entries as they are printed.
+// The reference tank's entries, one a line.
 
 // How many entries the reference tank has.
 pub const REFERENCE_ENTRIES: usize = 401;
 
-// The reference tank of document 02: depth h from 0 to 400 centimetres, entry 900 h + h h kilograms.
+// Document 02: "depth h from 0 to 400 centimetres, entry 900 × h + h × h kilograms".
 pub const REFERENCE_TANK: [u32; REFERENCE_ENTRIES] = [
     0,
     901,

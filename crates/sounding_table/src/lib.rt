@@ -8,13 +8,12 @@ ghost use lib.ListN.{length};
 ghost use lib.Signed.{ltZ};
 ghost use mathlib.Core.Bool.{false};
 ghost use mathlib.Core.Path.{_≡_};
-ghost use Rattle.sounding_table.specs.Depth.{depth as depthIn, inside as insideOf, Searchable};
+ghost use Rattle.sounding_table.specs.Depth.{kilogramsInTonne, depth as depthIn, inside as insideOf, Searchable};
 ghost use Rattle.sounding_table.specs.Table.{referenceTank};
 use entries::REFERENCE_ENTRIES;
 use entries::REFERENCE_TANK;
 
-// Kilograms in a tonne.
-const KILOGRAMS: u64 = 1000;
+const KILOGRAMS_IN_TONNE: u64 = 1000;
 
 // The reference tank's entries.
 pub fn reference_tank() -> [u32; REFERENCE_ENTRIES]
@@ -33,9 +32,9 @@ fn scaled_entry(entry: u32, scale: u16) -> u64
 
 fn scaled_answer(answer: i32) -> u64
     requires { ⌜ ltZ answer (pos 0) ≡ false ⌝ }
-    ensures { λ r. ⌜ r ≡ natAbs answer * 1000 ⌝ }
+    ensures { λ r. ⌜ r ≡ natAbs answer * kilogramsInTonne ⌝ }
 {
-    answer as u64 * KILOGRAMS
+    answer as u64 * KILOGRAMS_IN_TONNE
 }
 
 // Whether an answer is neither negative nor above the table's last entry.

@@ -1,5 +1,5 @@
 -- Definitions only.
--- What soundings say to the mate, over the bytes that the call left: each tank's depth in the reference tank, and what refusal 10 means.
+-- What soundings say, over the bytes that the call left: each tank's depth in the reference tank, and what refusal 10 means.
 use Prim.Native.Nat.{ℕ, _+_, _*_, _<_, _≤_}
 use lib.IntN.{ℤ, pos, _*ℤ_}
 use lib.ListN.{getD, drop}
@@ -18,14 +18,14 @@ use Rattle.sounding_table.specs.Table.{referenceEntry}
 abbrev pub soundedDepth : List ℕ → ℕ → ℕ
 soundedDepth bytes j = figureAt u16Kind (drop (u16Kind .width * j) bytes)
 
--- the answer Y over D is sounded at h centimetres in the reference tank: the entry at h is not above Y × 1,000 / D kilograms, and the next one, where
--- there is a next one, is. An empty tank and a full one are told by the entries for 1 and for 400 centimetres
+-- h is the depth of the answer Y over D in the reference tank: the entry at h is not above Y × 1,000 / D kilograms, and the next one, where there is a
+-- next one, is. Depth 0 and depth 400 are told by the entries for 1 and for 400 centimetres
 pub record SoundedAt (D : ℕ) (Y : ℤ) (h : ℕ) : Type 0 where
   pub deepest : h ≤ 400
   pub not-above : pos (referenceEntry h * D) ≤ℤ (Y *ℤ pos 1000)
   pub next-above : h < 400 → (Y *ℤ pos 1000) <ℤ pos (referenceEntry (h + 1) * D)
-  pub empty : h ≡ 0 ↔ (Y *ℤ pos 1000) <ℤ pos (901 * D)
-  pub full : h ≡ 400 ↔ Y *ℤ pos 1000 ≡ pos (520000 * D)
+  pub depth-zero : h ≡ 0 ↔ (Y *ℤ pos 1000) <ℤ pos (901 * D)
+  pub depth-last : h ≡ 400 ↔ Y *ℤ pos 1000 ≡ pos (520000 * D)
 
 -- "when an answer is negative or above the entry for 400": Y is negative, or Y × 1,000 > 520,000 × D
 abbrev pub Outside : ℕ → ℤ → Type 0
@@ -38,7 +38,7 @@ caseAnswer c j = getD (caseSolution c .trial) j (pos 0)
 -- a case of which some answer is outside
 pub record OutsideCase (c : Case) : Type 0 where
   pub tank : ℕ
-  pub one : tank < c .n
+  pub is-tank : tank < c .n
   pub outside : Outside (scaleOf (c .exponent)) (caseAnswer c tank)
 
 -- what a count m says of the bytes that a buffer then holds

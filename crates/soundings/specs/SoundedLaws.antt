@@ -1,21 +1,22 @@
--- What the call's result says: of a count, each tank's depth by the bytes; of refusal 10, that some answer is outside the table. Assumes nothing.
+-- What the call's result says: of a count, each tank's depth by the bytes; of refusal 10, that some answer is outside the table; of 2 to 9, that a record is
+-- refused so. Assumes nothing.
 use Prim.Native.Nat.{ℕ, _*_, _^_, _<_, _≤_}
-use borrow.Author.Tests.{leb-true}
+use borrow.Author.Tests.{leb-true, le-leb}
 use lib.Dec.{leb}
 use lib.IntN.{ℤ, pos}
 use lib.ListN.{length, getD, take, drop}
-use lib.Seq.{take-length, length-take-le, getD-take}
+use lib.Seq.{length-take-le, getD-take}
 use mathlib.Core.Bool.{Bool, true, false}
 use mathlib.Core.List.{List, _++_}
-use mathlib.Core.Logic.{_↔_}
-use mathlib.Core.Path.{_≡_, refl, sym, ap, subst, _∙_}
+use mathlib.Core.Path.{_≡_, refl, sym, ap, _∙_}
 use native.Mathlib.Omega.{arith}
 use Rattle.limits.specs.Limits.{mostTanks}
-use Rattle.buffer.specs.AllLaws.{Failing, all-fails}
-use Rattle.buffer.specs.Buffer.{onto, run}
-use Rattle.buffer.specs.RunLaws.{joined-run, run-piece}
+use Rattle.buffer.specs.AllLaws.{all-fails}
+use Rattle.buffer.specs.Buffer.{onto}
+use Rattle.buffer.specs.RunLaws.{run-piece}
+use Rattle.outcome.specs.CallResult.{callResult, writeIfAccepted, checkRoom}
 use Rattle.outcome.specs.CallResultLaws.{WrittenCount, written-count, written-refusal}
-use Rattle.outcome.specs.Laws.{check-accepted, first-left, first-right}
+use Rattle.outcome.specs.Laws.{check-accepted, check-refused, first-left, first-right}
 use Rattle.outcome.specs.Outcome.{reportedOutcome, check, first}
 use Rattle.outcome.specs.declared.Outcome.the-variants.{Count, Refused as RefusedBy}
 use Rattle.outcome.specs.declared.Refusal.{Refusal}
@@ -23,37 +24,30 @@ use Rattle.outcome.specs.declared.Refusal.the-variants.{BufferTooShort, Outside
 use Rattle.outcome.specs.declared.Status.{Status}
 use Rattle.outcome.specs.declared.Status.the-variants.{Accepted, Refused}
 use Rattle.figures.specs.FigureLaws.{length-figure, figure-back}
-use Rattle.figures.specs.Figures.{u16Kind, figureAt, figureBytes}
+use Rattle.figures.specs.Figures.{u16Kind, figureAt}
 use Rattle.casefile.specs.Case.{Case}
 use Rattle.casefile.specs.CaseLaws.{Good, decode-good}
 use Rattle.casefile.specs.Decode.{accepted, decode}
-use Rattle.casefile.specs.StoredLaws.{getD-padded, length-padded}
+use Rattle.casefile.specs.StoredLaws.{getD-padded, padded-places}
+use Rattle.recordfile.specs.Layout.{longestRecord}
 use Rattle.recordfile.specs.ReadOff.{recordedAnswer}
-use Rattle.ballast.specs.AnswerBounds.{AnswerBounded, answer-bounded}
-use Rattle.ballast.specs.Call.{Answer, scaleOf, caseSolution, inPlaces, answerOf}
+use Rattle.ballast.specs.Call.{Answer, scaleOf, caseSolution, inPlaces, answerOf, answerRecord, recordResult, judgeResult}
 use Rattle.ballast.specs.CallLaws.{Answering, answering}
 use Rattle.ballast.specs.Demand.{Demand}
 use Rattle.sounding_table.specs.Depth.{depth, inside}
 use Rattle.sounding_table.specs.Table.{referenceTank}
-use Rattle.soundings.specs.Sounded.{soundedDepth, SoundedAt, Outside, caseAnswer, OutsideCase, Sounded}
-use Rattle.soundings.specs.SoundingLaws.{depth-small, inside-at, length-depths, soundings-answered, reference-usable}
-use Rattle.soundings.specs.Soundings.{soundingsRoom, allInside, depthBytes, tableStatus, soundedBy, soundingsOf, soundingsResult}
+use Rattle.soundings.specs.Sounded.{soundedDepth, SoundedAt, caseAnswer, OutsideCase, Sounded}
+use Rattle.soundings.specs.SoundingLaws.{depth-small, inside-at, piece, depths-run, length-depths, soundings-refused, soundings-answered, reference-usable}
+use Rattle.soundings.specs.Soundings.{soundingsRoom, allInside, depthBytes, tableStatus, soundingsOf, soundingsResult}
 use Rattle.soundings.specs.TankLaws.{sounded-at, not-inside, outside-not}
 
--- ---- depths read back, whatever stands behind them
+-- ---- a depth read back, whatever stands behind the depths
 
-module _ (table : List ℕ) (D : ℕ) (Y : List ℤ) where
-  abbrev piece : ℕ → List ℕ
-  piece j = figureBytes u16Kind (depth table D (getD Y j (pos 0)))
-
-  depths-run : depthBytes table D Y ≡ run (length Y) piece
-  depths-run = rw (take-length Y) at (joined-run (λ y. figureBytes u16Kind (depth table D y)) (pos 0) Y (length Y) (omega arith))
-
-  depth-read : (rest : List ℕ) (j : ℕ) → j < length Y → depth table D (getD Y j (pos 0)) < 2 ^ 16
-      → soundedDepth (depthBytes table D Y ++ rest) j ≡ depth table D (getD Y j (pos 0))
-  depth-read rest j h l =
-      let p = run-piece (u16Kind .width) piece (λ i. length-figure u16Kind (depth table D (getD Y i (pos 0)))) (length Y) j rest h in
-      rw depths-run (ap (figureAt u16Kind) (p .here) ∙ figure-back u16Kind (depth table D (getD Y j (pos 0))) l refl (p .behind))
+depth-read : (table : List ℕ) (D : ℕ) (Y : List ℤ) (rest : List ℕ) (j : ℕ) → j < length Y → depth table D (getD Y j (pos 0)) < 2 ^ 16
+    → soundedDepth (depthBytes table D Y ++ rest) j ≡ depth table D (getD Y j (pos 0))
+depth-read table D Y rest j h l =
+    let p = run-piece (u16Kind .width) (piece table D Y) (λ i. length-figure u16Kind (depth table D (getD Y i (pos 0)))) (length Y) j rest h in
+    rw (depths-run table D Y) (ap (figureAt u16Kind) (p .here) ∙ figure-back u16Kind (depth table D (getD Y j (pos 0))) l refl (p .behind))
 
 -- ---- the answers that are sounded are the case's own
 
@@ -62,16 +56,12 @@ module _ (c : Case) (g : Good c) where
   answers = take (c .n) (inPlaces (caseSolution c) .trial)
 
   length-answers : length answers ≡ c .n
-  length-answers = length-take-le (c .n) _ (omega (arith, g .limits .small, length-padded (pos 0) mostTanks (caseSolution c .trial)))
+  length-answers = length-take-le (c .n) _ (omega (arith, g .limits .small, padded-places (pos 0) mostTanks (caseSolution c .trial)))
 
   answer-at : (j : ℕ) → j < c .n → getD answers j (pos 0) ≡ caseAnswer c j
   answer-at j h = getD-take (c .n) _ j (pos 0) h ∙ getD-padded (pos 0) mostTanks (caseSolution c .trial) j
 
 -- ---- refusal 10: of a case that 1 to 9 do not refuse
-
-refused-by : (b : Bool) (r : Refusal) → check b r ≡ Refused r → b ≡ false
-refused-by true r e = cc
-refused-by false r e = refl
 
 module _ (input out : List ℕ) (c : Case) (read : decode input ≡ accepted c) (answered : caseSolution c .status ≡ Accepted) (room : soundingsRoom ≤ length out) where
   abbrev D′ : ℕ
@@ -80,28 +70,37 @@ module _ (input out : List ℕ) (c : Case) (read : decode input ≡ accepted c) 
   good : Good c
   good = decode-good input c read
 
-  call-is : soundedBy referenceTank D′ (answers c good) out ≡ soundingsResult input out
+  call-is : writeIfAccepted (tableStatus referenceTank D′ (answers c good)) (depthBytes referenceTank D′ (answers c good)) out ≡ soundingsResult input out
   unfolding soundingsResult answerOf
   call-is = rw read (soundings-answered referenceTank (answerOf (accepted c)) out room answered)
 
-  ten-only : soundingsResult input out .outcome ≡ reportedOutcome (RefusedBy OutsideTable) → OutsideCase c
-  unfolding soundedBy
-  ten-only e =
+  -- 10 comes only if some answer is outside the table
+  pub refused-outside-table : soundingsResult input out .outcome ≡ reportedOutcome (RefusedBy OutsideTable) → OutsideCase c
+  refused-outside-table e =
       let t = written-refusal (tableStatus referenceTank D′ (answers c good)) _ out OutsideTable (ap (λ w. w .outcome) call-is ∙ e) in
-      let f = all-fails (inside referenceTank D′) (pos 0) (answers c good) (refused-by _ OutsideTable t) in
+      let f = all-fails (inside referenceTank D′) (pos 0) (answers c good) (check-refused _ OutsideTable t) in
       let l : f .place < c .n = omega (arith, f .inside, length-answers c good) in
-      record { tank = f .place; one = l; outside = not-inside D′ (caseAnswer c (f .place)) (rw (answer-at c good (f .place) l) at (f .fails)) }
+      record { tank = f .place; is-tank = l; outside = not-inside D′ (caseAnswer c (f .place)) (rw (answer-at c good (f .place) l) at (f .fails)) }
 
-  ten-if : OutsideCase c → soundingsResult input out .outcome ≡ reportedOutcome (RefusedBy OutsideTable)
-  unfolding soundedBy
-  ten-if w = rw (← call-is) (go (allInside referenceTank D′ (answers c good)) refl)
+  -- and then it does
+  pub outside-table-refused : OutsideCase c → soundingsResult input out .outcome ≡ reportedOutcome (RefusedBy OutsideTable)
+  outside-table-refused w = rw (← call-is) (go (allInside referenceTank D′ (answers c good)) refl)
     where
-      go : (b : Bool) → allInside referenceTank D′ (answers c good) ≡ b → soundedBy referenceTank D′ (answers c good) out .outcome ≡ reportedOutcome (RefusedBy OutsideTable)
-      go true q = absurd (outside-not D′ (caseAnswer c (w .tank)) (w .outside) (rw (answer-at c good (w .tank) (w .one)) at (inside-at reference-usable D′ (answers c good) q (w .tank))))
+      go : (b : Bool) → allInside referenceTank D′ (answers c good) ≡ b
+          → writeIfAccepted (tableStatus referenceTank D′ (answers c good)) (depthBytes referenceTank D′ (answers c good)) out .outcome ≡ reportedOutcome (RefusedBy OutsideTable)
+      go true q =
+          absurd (outside-not D′ (caseAnswer c (w .tank)) (w .outside) (rw (answer-at c good (w .tank) (w .is-tank)) at (inside-at reference-usable D′ (answers c good) q (w .tank))))
       go false q = rw q
 
-  pub ten-exactly : soundingsResult input out .outcome ≡ reportedOutcome (RefusedBy OutsideTable) ↔ OutsideCase c
-  ten-exactly = (ten-only, ten-if)
+-- ---- refusals 2 to 9: with room for both, those of a record
+
+pub refused-as-recorded : (input left out : List ℕ) (r : Refusal) → longestRecord ≤ length left → soundingsRoom ≤ length out
+    → judgeResult input left .outcome ≡ reportedOutcome (RefusedBy r) → callResult (RefusedBy r) out ≡ soundingsResult input out
+unfolding judgeResult recordResult soundingsResult
+refused-as-recorded input left out r h k e =
+    let x = answerOf (decode input) in
+    let t = written-refusal (checkRoom longestRecord (length left) (x .solution .status)) (answerRecord x) left r e in
+    soundings-refused referenceTank x out r k (rw (le-leb longestRecord (length left) h) at t)
 
 -- ---- a count
 
@@ -134,17 +133,15 @@ module _ (input out : List ℕ) (m : ℕ) (e : soundingsResult input out .outcom
   abbrev D″ : ℕ
   D″ = scaleOf (k .exponent)
 
-  result-is : soundedBy referenceTank D″ Y″ out ≡ soundingsResult input out
+  result-is : writeIfAccepted (tableStatus referenceTank D″ Y″) (depthBytes referenceTank D″ Y″) out ≡ soundingsResult input out
   result-is =
       call-is input out k (from .decoded) (from .answered)
       (leb-true soundingsRoom (length out) (check-accepted (leb soundingsRoom (length out)) BufferTooShort (first-left roomy _ passed)))
 
   written : WrittenCount (tableStatus referenceTank D″ Y″) (depthBytes referenceTank D″ Y″) out m
-  unfolding soundedBy
   written = written-count (tableStatus referenceTank D″ Y″) (depthBytes referenceTank D″ Y″) out m (ap (λ w. w .outcome) result-is ∙ e)
 
   left : soundingsResult input out .buffer ≡ onto (depthBytes referenceTank D″ Y″) out
-  unfolding soundedBy
   left = ap (λ w. w .buffer) (sym result-is) ∙ written .buffer
 
   depth-at : (j : ℕ) → j < k .n → SoundedAt D″ (caseAnswer k j) (soundedDepth (soundingsResult input out .buffer) j)

@@ -1,6 +1,6 @@
 -- Definitions only.
 -- The call that takes a case and a buffer and leaves the depths of the case's answer: document 02, "Soundings for the mate".
-use Prim.Native.Nat.{ℕ, _*_, _^_, _≤_}
+use Prim.Native.Nat.{ℕ, _*_, _^_, _<_, _≤_}
 use lib.IntN.{ℤ}
 use lib.ListN.{length, take}
 use mathlib.Core.Bool.{Bool, true}
@@ -17,7 +17,7 @@ use Rattle.bigendian.specs.Number.{size}
 use Rattle.figures.specs.Figures.{u16Kind, figureBytes}
 use Rattle.casefile.specs.Decode.{decode}
 use Rattle.ballast.specs.Call.{Answer, scaleOf, answerOf}
-use Rattle.sounding_table.specs.Depth.{entryAt, depth, inside, Rising}
+use Rattle.sounding_table.specs.Depth.{entryAt, depth, inside, NonDecreasing}
 use Rattle.sounding_table.specs.Table.{referenceTank}
 
 -- "a buffer of at least 16 bytes": two bytes for each of eight tanks
@@ -38,9 +38,6 @@ depthBytes table D Y = joined (λ y. figureBytes u16Kind (depth table D y)) Y
 abbrev pub tableStatus : List ℕ → ℕ → List ℤ → Status
 tableStatus table D Y = check (allInside table D Y) OutsideTable
 
-unfoldable pub soundedBy : List ℕ → ℕ → List ℤ → List ℕ → CallResult
-soundedBy table D Y out = writeIfAccepted (tableStatus table D Y) (depthBytes table D Y) out
-
 -- ---- the call
 
 -- of the answer of a file: "with 10 and after 1 to 9"; "bytes beyond the depths stay as they were, and a shorter buffer is refusal 1"
@@ -54,15 +51,16 @@ soundingsOf table a out =
 unfoldable pub soundingsResult : List ℕ → List ℕ → CallResult
 soundingsResult input out = soundingsOf referenceTank (answerOf (decode input)) out
 
--- ---- what is asked of a table: it does not fall, begins with an empty tank, and has no more depths than two bytes count
+-- ---- what is asked of a table: it does not fall, its first entry is that of an empty tank, and it has no more depths than two bytes count
 
 pub record SoundingTable (table : List ℕ) : Type 0 where
-  pub rising : Rising table
+  pub ordered : NonDecreasing table
+  pub some : 0 < length table
   pub empty : entryAt table 0 ≡ 0
   pub few : length table ≤ 2 ^ 16
 
 -- what is asked to write depths: also that every answer is inside, and that they have room
-pub record Soundable (table : List ℕ) (D : ℕ) (Y : List ℤ) (out : List ℕ) : Type 0 where
+pub record DepthsFit (table : List ℕ) (D : ℕ) (Y : List ℤ) (out : List ℕ) : Type 0 where
   pub usable : SoundingTable table
   pub inside : allInside table D Y ≡ true
   pub room : size w16 * length Y ≤ length out

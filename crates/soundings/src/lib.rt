@@ -1,12 +1,12 @@
-// Soundings for the mate: the depth that each tank is pumped to, of any bytes as a case.
+// Soundings: the depth of each tank's answer in the reference tank, of any bytes as a case.
 ghost use Prim.Native.Nat.{_*_, _<_, _≤_};
 ghost use lib.ListN.{length};
 ghost use mathlib.Core.Path.{_≡_};
-ghost use Rattle.buffer.specs.Buffer.{onto};
-ghost use Rattle.outcome.specs.CallResult.{callResult};
-ghost use Rattle.bigendian.specs.Number.{size};
-ghost use Rattle.soundings.specs.Soundings.{allInside, depthBytes, soundedBy, soundingsResult, SoundingTable, Soundable};
 ghost use mir.Syntax.{w16};
+ghost use Rattle.buffer.specs.Buffer.{onto};
+ghost use Rattle.outcome.specs.CallResult.{callResult, writeIfAccepted};
+ghost use Rattle.bigendian.specs.Number.{size};
+ghost use Rattle.soundings.specs.Soundings.{allInside, depthBytes, tableStatus, soundingsResult, SoundingTable, DepthsFit};
 use bigendian::SIZE_16;
 use limits::MOST_TANKS;
 use outcome::Outcome;
@@ -32,7 +32,7 @@ fn all_inside<'a>(table: &'a [u32], scale: u16, answer: &'a [i32]) -> bool
 
 // The depths of answers that are inside the table, over the front of out.
 fn write_depths<'a>(table: &'a [u32], scale: u16, answer: &'a [i32], out: &mut [u8])
-    requires { ⌜ Soundable (now table) scale (now answer) (now out) ⌝ }
+    requires { ⌜ DepthsFit (now table) scale (now answer) (now out) ⌝ }
     ensures { λ _. ⌜ now (out .exit) ≡ onto (depthBytes (now (table .entry)) scale (now (answer .entry))) (now (out .entry)) ⌝ }
 {
     let mut j = 0;
@@ -46,9 +46,9 @@ fn write_depths<'a>(table: &'a [u32], scale: u16, answer: &'a [i32], out: &mut [
 }
 
 // The depths of the answers over the front of out, and how many bytes they have; or refusal 10, with out as it was.
-fn sound_answers<'a>(table: &'a [u32], scale: u16, answer: &'a [i32], out: &mut [u8]) -> Outcome
+fn write_soundings<'a>(table: &'a [u32], scale: u16, answer: &'a [i32], out: &mut [u8]) -> Outcome
     requires { ⌜ (SoundingTable (now table)) × (size w16 * length (now answer) ≤ length (now out)) ⌝ }
-    ensures { λ r. ⌜ callResult r (now (out .exit)) ≡ soundedBy (now (table .entry)) scale (now (answer .entry)) (now (out .entry)) ⌝ }
+    ensures { λ r. ⌜ callResult r (now (out .exit)) ≡ writeIfAccepted (tableStatus (now (table .entry)) scale (now (answer .entry))) (depthBytes (now (table .entry)) scale (now (answer .entry))) (now (out .entry)) ⌝ }
 {
     if !all_inside(table, scale, answer) {
         return Outcome::Refused(Refusal::OutsideTable);
@@ -78,5 +78,5 @@ pub fn soundings(input: &[u8], out: &mut [u8]) -> Outcome
     let table = sounding_table::reference_tank();
     let scale = integers::power_of_ten(answer.exponent);
     let n = answer.n;
-    sound_answers(&table, scale, &trial[..n], out)
+    write_soundings(&table, scale, &trial[..n], out)
 }

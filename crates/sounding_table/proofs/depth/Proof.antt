@@ -31,7 +31,7 @@ loop-again-2 c =
 returns : tie.Need-returns Inv-loop μ-loop
 returns c =
     let s = c .before .before .before .before in
-    rw (toZ-ofZ (s .fits .answer)) at (halving-ended (c .before .loop .inv) (s .pre .rising) (omega arith))
+    rw (toZ-ofZ (s .fits .answer)) at (halving-ended (c .before .loop .inv) (s .pre .ordered) (omega arith))
 
 pub depth-spec : {M : Type 1} → statement M
 depth-spec =

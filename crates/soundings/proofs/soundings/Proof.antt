@@ -61,14 +61,14 @@ power-of-ten-requires c κs = omega (arith, bounded (c .before) .exponent-small)
 array-share-prefix-trial : tie.Need-array-share-prefix-trial
 array-share-prefix-trial c = bounded (c .before .before .before) .places
 
-slice-aggregate-sound-answers-2 : tie.Need-slice-aggregate-sound-answers-2
-slice-aggregate-sound-answers-2 c = sym (length-take-le _ _ (array-share-prefix-trial (c .before)))
+slice-aggregate-write-soundings-2 : tie.Need-slice-aggregate-write-soundings-2
+slice-aggregate-write-soundings-2 c = sym (length-take-le _ _ (array-share-prefix-trial (c .before)))
 
-sound-answers-requires : tie.Need-sound-answers-requires
-sound-answers-requires c κs =
+write-soundings-requires : tie.Need-write-soundings-requires
+write-soundings-requires c κs =
     let e = c .before .before .before .before .before in
     let k = answered e in
-    let n = sym (slice-aggregate-sound-answers-2 (c .before)) in
+    let n = sym (slice-aggregate-write-soundings-2 (c .before)) in
     (rw (c .before .before .before .before .reference-tank .ensures) reference-usable, omega (arith, n, bounded e .recordable .rows, enough k))
 
 returns-3 : tie.Need-returns-3
@@ -78,7 +78,7 @@ returns-3 c =
     let t = p .before in
     let e = t .before in
     let k = answered e in
-    let w = rw (t .reference-tank .ensures, p .power-of-ten .ensures) at (c .before .before .sound-answers .ensures) in
+    let w = rw (t .reference-tank .ensures, p .power-of-ten .ensures) at (c .before .before .write-soundings .ensures) in
     w ∙ soundings-answered referenceTank (answer k) (out′ k) (enough k) (e .enum-told .given .1) ∙ ap (λ x. soundingsOf referenceTank x (out′ k)) (answer-is k)
 
 pub soundings-spec : {M : Type 1} → statement M
@@ -94,7 +94,7 @@ soundings-spec =
     power-of-ten-requires
     (λ c. search needs)
     array-share-prefix-trial
-    slice-aggregate-sound-answers-2
-    sound-answers-requires
+    slice-aggregate-write-soundings-2
+    write-soundings-requires
     (λ c. search needs)
     returns-3)

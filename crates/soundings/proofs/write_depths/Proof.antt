@@ -1,6 +1,5 @@
 -- `soundings::write_depths` meets its contract. The loop's invariant: the depths of the tanks below j stand at the front. Assumes nothing.
 use Prim.Native.Nat.{_-_}
-use borrow.Author.Needs.{needs}
 use denote.Ref.{now}
 use lib.IntN.{ℤ, pos}
 use lib.ListN.{length, getD}
