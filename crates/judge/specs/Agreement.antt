@@ -1,14 +1,14 @@
 -- The judgement says what it is, and looks at the answer's n figures only: an answer that agrees in those is judged alike. Assumes nothing.
 use Prim.Native.Nat.{ℕ, suc, _*_, _+_, _<_, _≤_}
 use lib.Dec.{eqb}
-use lib.IntN.{ℤ, pos, natAbs, _-ℤ_, _*ℤ_}
+use lib.IntN.{ℤ, pos, _-ℤ_, _*ℤ_}
 use mathlib.Core.Path.{_≡_, refl, ap, ap₂, _∙_}
 use Rattle.limits.specs.Limits.{mostTanks}
-use Rattle.integers.specs.SumLaws.{sum-cong, total-cong}
 use Rattle.fractions.specs.GreatestLaws.{first-greatest-cong}
 use Rattle.judge.specs.Finding.{Finding, finding, Agrees}
 use Rattle.judge.specs.Judgement.{rowMet, factor, noFactor, firstUnmet, deciding, judgement}
 use Rattle.judge.specs.Laws.{first-not-cong, deciding-below, deciding-is, at-residuals, at-reaches}
+use Rattle.judge.specs.RowSumLaws.{same-products, same-weights}
 use Rattle.judge.specs.System.{Row, Trial, System, row, residual, reach}
 
 pub judgement-agrees : (s : System) (t : Trial) → 0 < s .n → s .n ≤ mostTanks → Agrees s t (finding (judgement s t))
@@ -30,13 +30,11 @@ module _ (t : Trial) (Y : ℕ → ℤ) (same : (j : ℕ) → j < t .n → t .Y j
 
   pub same-residual : (r : Row) → residual r t ≡ residual r withFigures
   unfolding residual
-  same-residual r =
-      ap (λ x. pos (t .D) *ℤ r .b -ℤ x) (sum-cong (t .n) (λ j. r .A j *ℤ t .Y j) (λ j. r .A j *ℤ Y j) (λ j l. ap (λ y. r .A j *ℤ y) (same j l)))
+  same-residual r = ap (λ x. pos (t .D) *ℤ r .b -ℤ x) (same-products (t .Y) Y (t .n) same (r .A))
 
   pub same-reach : (r : Row) → reach r t ≡ reach r withFigures
   unfolding reach
-  same-reach r =
-      ap (λ x. t .D * r .f + x) (total-cong (t .n) (λ j. r .E j * natAbs (t .Y j)) (λ j. r .E j * natAbs (Y j)) (λ j l. ap (λ y. r .E j * natAbs y) (same j l)))
+  same-reach r = ap (λ x. t .D * r .f + x) (same-weights (t .Y) Y (t .n) same (r .E))
 
   module _ (s : System) where
     same-unmet : firstUnmet s t ≡ firstUnmet s withFigures

@@ -1,3 +1,4 @@
+pub mod RowSums
 pub mod System
 pub mod Perturbation
 pub mod Judgement
@@ -10,5 +11,5 @@ pub mod Finding
 pub mod Agreement
 pub mod Theorem
 pub mod Places
-pub mod RunningSums
+pub mod RowSumLaws
 pub mod SameFigures

@@ -2,13 +2,13 @@
 -- A system of linear equations with tolerances, a trial answer, and what the trial leaves of each row: the quantities of Theorem 7.3 of
 -- document 001, in whole numbers.
 use Prim.Native.Nat.{ℕ, _+_, _*_}
-use lib.IntN.{ℤ, pos, natAbs, _-ℤ_, _*ℤ_}
+use lib.IntN.{ℤ, pos, _-ℤ_, _*ℤ_}
 use lib.ListN.{getD, replicate}
 use mathlib.Core.List.{List}
 use Rattle.limits.specs.Limits.{mostTanks}
 use Rattle.rows.specs.Block.{Block, block}
-use Rattle.integers.specs.Sums.{sum, total}
 use Rattle.integers.specs.Tables.{filled}
+use Rattle.judge.specs.RowSums.{productSum, weightSum}
 
 -- A row: Σ A(j) x(j) = b, where A(j) is known within ± E(j) and b within ± f.
 pub record Row : Type 0 where
@@ -25,11 +25,11 @@ pub record Trial : Type 0 where
 
 -- the residual r = b − A y of Theorem 7.3, times D: R of document 01
 unfoldable pub residual : Row → Trial → ℤ
-residual r t = pos (t .D) *ℤ r .b -ℤ sum (t .n) (λ j. r .A j *ℤ t .Y j)
+residual r t = pos (t .D) *ℤ r .b -ℤ productSum (r .A) (t .Y) (t .n)
 
 -- the denominator E |y| + f of equation 7.8, times D: T of document 01, the row's reach
 unfoldable pub reach : Row → Trial → ℕ
-reach r t = t .D * r .f + total (t .n) (λ j. r .E j * natAbs (t .Y j))
+reach r t = t .D * r .f + weightSum (r .E) (t .Y) (t .n)
 
 -- n rows over n tanks. Past a list's end a figure reads as 0.
 pub record System : Type 0 where
@@ -39,17 +39,28 @@ pub record System : Type 0 where
 abbrev pub system : ℕ → List ℤ → List ℕ → List ℤ → List ℕ → System
 system n A E b f = record { n = n; rows = block A E b f }
 
+-- the coefficients, and the tolerances, that stand in a list from a place on
+abbrev pub coefficientsFrom : ℕ → List ℤ → ℕ → ℤ
+coefficientsFrom from A j = getD A (from + j) (pos 0)
+
+abbrev pub tolerancesFrom : ℕ → List ℕ → ℕ → ℕ
+tolerancesFrom from E j = getD E (from + j) 0
+
 -- the row whose coefficients and tolerances stand in two lists from a place on
 abbrev pub rowFrom : ℕ → List ℤ → List ℕ → ℤ → ℕ → Row
-rowFrom from A E b f = record { A = λ j. getD A (from + j) (pos 0); E = λ j. getD E (from + j) 0; b = b; f = f }
+rowFrom from A E b f = record { A = coefficientsFrom from A; E = tolerancesFrom from E; b = b; f = f }
 
 -- row i, counted from 0
 abbrev pub row : System → ℕ → Row
 row s i = rowFrom (i * s .n) (s .rows .A) (s .rows .E) (getD (s .rows .b) i (pos 0)) (getD (s .rows .f) i 0)
 
--- the figures Y of a list, over n tanks and the scale D
+-- the figures Y of a list
+abbrev pub trialFigures : List ℤ → ℕ → ℤ
+trialFigures Y j = getD Y j (pos 0)
+
+-- the same over n tanks and the scale D
 abbrev pub trial : ℕ → ℕ → List ℤ → Trial
-trial n D Y = record { n = n; D = D; Y = λ j. getD Y j (pos 0) }
+trial n D Y = record { n = n; D = D; Y = trialFigures Y }
 
 -- the trial whose figures are all zero
 abbrev pub zeroTrial : ℕ → ℕ → Trial

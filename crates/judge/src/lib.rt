@@ -9,7 +9,8 @@ ghost use Rattle.fractions.specs.Fraction.{order};
 ghost use Rattle.fractions.specs.Greatest.{isGreater, firstGreatest};
 ghost use Rattle.judge.specs.Judgement.{rowMet, factor, noFactor, firstNot, measurementFrom, judgementFrom, measurement, concluded, judgement};
 ghost use Rattle.judge.specs.Magnitudes.{Magnitudes};
-ghost use Rattle.judge.specs.System.{residual as residualOf, reach as reachOf, rowFrom, system, trial as trialOf};
+ghost use Rattle.judge.specs.RowSums.{productSum, weightSum};
+ghost use Rattle.judge.specs.System.{residual as residualOf, reach as reachOf, coefficientsFrom, tolerancesFrom, trialFigures, rowFrom, system, trial as trialOf};
 use integers::magnitude;
 use integers::scaled;
 use limits::MOST_COEFFICIENTS;
@@ -52,13 +53,45 @@ fn widen(
     }
 }
 
+// The two sums of a row: of A × Y, and of E × |Y|.
+struct RowSums {
+    products: i64,
+    weights: u64,
+}
+
+// The sums over the first n tanks of the row whose coefficients and tolerances start at `from`, in one pass, tank by tank from the first: what
+// stands after each tank is said by `running-products` and `running-weights` (judge/RowSumLaws).
+fn row_sums<'a>(
+    n: usize,
+    from: usize,
+    coefficients: &'a [i16; MOST_COEFFICIENTS],
+    tolerances: &'a [u16; MOST_COEFFICIENTS],
+    figures: &'a [i64; MOST_TANKS],
+    magnitudes: &'a [u64; MOST_TANKS],
+) -> RowSums
+    requires { ⌜ (n ≤ mostTanks) × (from + n ≤ mostCoefficients) × Magnitudes n (now figures) (now magnitudes) ⌝ }
+    ensures products { λ r. ⌜ r .products ≡ productSum (coefficientsFrom from (now (coefficients .entry))) (trialFigures (now (figures .entry))) n ⌝ }
+    ensures weights { λ r. ⌜ r .weights ≡ weightSum (tolerancesFrom from (now (tolerances .entry))) (trialFigures (now (figures .entry))) n ⌝ }
+    ensures small { λ r. ⌜ (natAbs (r .products) ≤ n * 2 ^ 46) × (r .weights ≤ n * 2 ^ 47) ⌝ }
+{
+    let mut products: i64 = 0;
+    let mut weights: u64 = 0;
+    let mut j = 0;
+    while j < n {
+        products += (coefficients[from + j] as i64) * figures[j];
+        weights += weight(tolerances[from + j], magnitudes[j]);
+        j += 1;
+    }
+    RowSums { products, weights }
+}
+
 // What a trial leaves of one row.
 struct RowMeasurement {
     residual: i64,
     reach: u64,
 }
 
-// Residual and reach of the row whose coefficients and tolerances start at `from`, in one pass: both sums are formed tank by tank from the first.
+// Residual and reach of the row whose coefficients and tolerances start at `from`.
 fn measure_row<'a>(
     n: usize,
     from: usize,
@@ -74,17 +107,10 @@ fn measure_row<'a>(
     ensures residual { λ r. ⌜ r .residual ≡ residualOf (rowFrom from (now (coefficients .entry)) (now (tolerances .entry)) «right_side» «right_tolerance») (trialOf n scale (now (figures .entry))) ⌝ }
     ensures reach { λ r. ⌜ r .reach ≡ reachOf (rowFrom from (now (coefficients .entry)) (now (tolerances .entry)) «right_side» «right_tolerance») (trialOf n scale (now (figures .entry))) ⌝ }
 {
-    let mut products: i64 = 0;
-    let mut weights: u64 = 0;
-    let mut j = 0;
-    while j < n {
-        products += (coefficients[from + j] as i64) * figures[j];
-        weights += weight(tolerances[from + j], magnitudes[j]);
-        j += 1;
-    }
+    let sums = row_sums(n, from, coefficients, tolerances, figures, magnitudes);
     RowMeasurement {
-        residual: scaled(scale, right_side) - products,
-        reach: scaled_tolerance(scale, right_tolerance) + weights,
+        residual: scaled(scale, right_side) - sums.products,
+        reach: scaled_tolerance(scale, right_tolerance) + sums.weights,
     }
 }
 
