@@ -1,23 +1,14 @@
--- Laws of finite sums: one term more, sums of sums and of multiples, and how large they are. Assumes nothing.
+-- Laws of finite sums: sums of sums and of multiples, and how large they are. Assumes nothing.
 use Prim.Native.Nat.{ℕ, zero, suc, _+_, _*_, _≤_, _<_}
 use lib.IntN.{ℤ, pos, natAbs, _+ℤ_, _*ℤ_}
 use mathlib.Core.List.{[], _∷_}
 use mathlib.Core.Path.{_≡_, refl, ap, ap₂, _∙_}
 use native.Mathlib.Nat.{le-trans, mul-le-mul-left}
-use native.Mathlib.Numerals.{add-one}
 use native.Mathlib.Omega.{arith}
 use Rattle.integers.specs.Diff.{vars, quote, ring}
 use Rattle.integers.specs.Sign.{turned}
 use Rattle.integers.specs.Size.{natAbs-+ℤ, turned-times}
 use Rattle.integers.specs.Sums.{sum, total}
-
--- ---- one term more, as code counts
-
-pub sum-more : (n : ℕ) (f : ℕ → ℤ) → sum (n + 1) f ≡ sum n f +ℤ f n
-sum-more n f = rw add-one
-
-pub total-more : (n : ℕ) (f : ℕ → ℕ) → total (n + 1) f ≡ total n f + f n
-total-more n f = rw add-one
 
 -- ---- term by term
 

@@ -1,6 +1,6 @@
 -- Definitions only.
 -- Finite sums by prefixes: the sum of the first n terms of a sequence, formed from the first term on. Over ℤ `sum`, over ℕ `total`.
--- That one term more adds exactly that term is the definition itself, so a loop's invariant is `s ≡ sum j f`.
+-- That one term more adds exactly that term is the definition itself.
 use Prim.Native.Nat.{ℕ, zero, suc, _+_}
 use lib.IntN.{ℤ, pos, _+ℤ_}
 

@@ -8,7 +8,7 @@ use Rattle.fractions.specs.GreatestLaws.{first-greatest-cong}
 use Rattle.judge.specs.Finding.{Finding, finding, Agrees}
 use Rattle.judge.specs.Judgement.{rowMet, factor, noFactor, firstUnmet, deciding, judgement}
 use Rattle.judge.specs.Laws.{first-not-cong, deciding-below, deciding-is, at-residuals, at-reaches}
-use Rattle.judge.specs.RowSumLaws.{same-products, same-weights}
+use Rattle.judge.specs.RowSumLaws.{same-product-sum, same-weight-sum}
 use Rattle.judge.specs.System.{Row, Trial, System, row, residual, reach}
 
 pub judgement-agrees : (s : System) (t : Trial) → 0 < s .n → s .n ≤ mostTanks → Agrees s t (finding (judgement s t))
@@ -30,11 +30,11 @@ module _ (t : Trial) (Y : ℕ → ℤ) (same : (j : ℕ) → j < t .n → t .Y j
 
   pub same-residual : (r : Row) → residual r t ≡ residual r withFigures
   unfolding residual
-  same-residual r = ap (λ x. pos (t .D) *ℤ r .b -ℤ x) (same-products (t .Y) Y (t .n) same (r .A))
+  same-residual r = ap (λ x. pos (t .D) *ℤ r .b -ℤ x) (same-product-sum (t .Y) Y (t .n) same (r .A))
 
   pub same-reach : (r : Row) → reach r t ≡ reach r withFigures
   unfolding reach
-  same-reach r = ap (λ x. t .D * r .f + x) (same-weights (t .Y) Y (t .n) same (r .E))
+  same-reach r = ap (λ x. t .D * r .f + x) (same-weight-sum (t .Y) Y (t .n) same (r .E))
 
   module _ (s : System) where
     same-unmet : firstUnmet s t ≡ firstUnmet s withFigures

@@ -3,6 +3,7 @@ pub mod System
 pub mod Perturbation
 pub mod Judgement
 pub mod Magnitudes
+pub mod RowSumLaws
 pub mod Laws
 pub mod ZeroTrial
 pub mod Sizes
@@ -11,5 +12,4 @@ pub mod Finding
 pub mod Agreement
 pub mod Theorem
 pub mod Places
-pub mod RowSumLaws
 pub mod SameFigures

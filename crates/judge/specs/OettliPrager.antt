@@ -11,8 +11,9 @@ use Rattle.integers.specs.Diff.{vars, quote, ring}
 use Rattle.integers.specs.Order.{from-equation}
 use Rattle.integers.specs.Size.{natAbs-negℤ, natAbs-*ℤ, natAbs-subℤ, natAbs-within-zero, turned-size}
 use Rattle.integers.specs.SumLaws.{sum-none, sum-weighted, sum-turned, sum-within}
-use Rattle.integers.specs.Sums.{sum, total}
+use Rattle.integers.specs.Sums.{sum}
 use Rattle.judge.specs.Perturbation.{Perturbation, Solve, Keep, Under, Possible, PossibleUnder, yieldedPerturbation}
+use Rattle.judge.specs.RowSums.{productSum, weightSum}
 use Rattle.judge.specs.System.{Row, Trial, residual, reach}
 
 -- ---- changes need |R| within reach
@@ -23,7 +24,7 @@ module _ (r : Row) (t : Trial) (k : Perturbation) where
   size h =
       let q = pos (k .q) in
       let d = pos (t .D) in
-      let S = sum (t .n) (λ j. r .A j *ℤ t .Y j) in
+      let S = productSum (r .A) (t .Y) (t .n) in
       let s = sum (t .n) (λ j. k .a j *ℤ t .Y j) in
       -- q R = Σ a(j) Y(j) − D c, from what makes the changed row exact
       let e : q *ℤ residual r t ≡ s -ℤ d *ℤ k .c =
@@ -38,7 +39,7 @@ module _ (r : Row) (t : Trial) (k : Perturbation) where
 
   module _ (u v : ℕ) (h : Under u v r t k) where
     -- the sum of the changes is bounded like each of them
-    changes-bounded : v * natAbs (sum (t .n) (λ j. k .a j *ℤ t .Y j)) ≤ u * k .q * total (t .n) (λ j. r .E j * natAbs (t .Y j))
+    changes-bounded : v * natAbs (sum (t .n) (λ j. k .a j *ℤ t .Y j)) ≤ u * k .q * weightSum (r .E) (t .Y) (t .n)
     changes-bounded =
         sum-within v (u * k .q) (t .n) _ _
         (λ j l. omega (arith, ap (λ x. v * x) (natAbs-*ℤ (k .a j) (t .Y j)), mul-le-mul-right (natAbs (t .Y j)) (h .coefficients j l)))
@@ -54,7 +55,7 @@ module _ (r : Row) (t : Trial) (k : Perturbation) where
 
 module _ (r : Row) (t : Trial) where
   abbrev S′ : ℤ
-  S′ = sum (t .n) (λ j. r .A j *ℤ t .Y j)
+  S′ = productSum (r .A) (t .Y) (t .n)
 
   -- by the value of the reach: where it is 0 nothing changes; elsewhere q S + R G = D (q b − f R), with q = D f + G and R = D b − S
   solve-at : (T : ℕ) → reach r t ≡ T → (T ≡ 0 → residual r t ≡ pos 0) → Solve r t (yieldedPerturbation r t (residual r t) T)

@@ -1,10 +1,10 @@
--- What the running sums of a row are after each tank. Assumes nothing.
+-- What the running sums of a row are after each tank, and which figures its sums depend on. Assumes nothing.
 use Prim.Native.Nat.{ℕ, zero, suc, _+_, _*_, _<_}
 use lib.IntN.{ℤ, natAbs, _+ℤ_, _*ℤ_}
 use mathlib.Core.Path.{_≡_, refl, ap}
 use native.Mathlib.Numerals.{add-one}
 use Rattle.integers.specs.SumLaws.{sum-cong, total-cong}
-use Rattle.judge.specs.RowSums.{productSum, weightSum, addTank, runningSums}
+use Rattle.judge.specs.RowSums.{productSum, weightSum, addTerms, runningSums}
 
 module _ (A : ℕ → ℤ) (E : ℕ → ℕ) (Y : ℕ → ℤ) where
   -- after j tanks the running sum is the sum of exactly the first j products, A(1) × Y(1) to A(j) × Y(j): for each j, so from 0 to n
@@ -18,13 +18,13 @@ module _ (A : ℕ → ℤ) (E : ℕ → ℕ) (Y : ℕ → ℤ) where
   running-weights (suc j) = ap (λ w. w + E j * natAbs (Y j)) (running-weights j)
 
   -- one tank more, as code counts
-  pub running-more : (j : ℕ) → runningSums A E Y (j + 1) ≡ addTank (A j) (E j) (Y j) (runningSums A E Y j)
+  pub running-more : (j : ℕ) → runningSums A E Y (j + 1) ≡ addTerms (A j) (E j) (Y j) (runningSums A E Y j)
   running-more j = rw add-one
 
--- a row's sums depend on the figures of their own tanks alone
+-- the sums of the first j tanks depend on the figures of those alone
 module _ (Y Y′ : ℕ → ℤ) (j : ℕ) (same : (k : ℕ) → k < j → Y k ≡ Y′ k) where
-  pub same-products : (A : ℕ → ℤ) → productSum A Y j ≡ productSum A Y′ j
-  same-products A = sum-cong j _ _ (λ k l. ap (λ y. A k *ℤ y) (same k l))
+  pub same-product-sum : (A : ℕ → ℤ) → productSum A Y j ≡ productSum A Y′ j
+  same-product-sum A = sum-cong j _ _ (λ k l. ap (λ y. A k *ℤ y) (same k l))
 
-  pub same-weights : (E : ℕ → ℕ) → weightSum E Y j ≡ weightSum E Y′ j
-  same-weights E = total-cong j _ _ (λ k l. ap (λ y. E k * natAbs y) (same k l))
+  pub same-weight-sum : (E : ℕ → ℕ) → weightSum E Y j ≡ weightSum E Y′ j
+  same-weight-sum E = total-cong j _ _ (λ k l. ap (λ y. E k * natAbs y) (same k l))

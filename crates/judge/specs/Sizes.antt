@@ -7,9 +7,9 @@ use native.Mathlib.Omega.{arith}
 use Rattle.limits.specs.Limits.{mostTanks}
 use Rattle.integers.specs.Size.{natAbs-*ℤ, natAbs-subℤ, product-ok}
 use Rattle.integers.specs.SumLaws.{sum-bound, total-bound}
-use Rattle.integers.specs.Sums.{sum}
 use Rattle.integers.specs.TableLaws.{all-filled}
 use Rattle.judge.specs.Judgement.{measurement}
+use Rattle.judge.specs.RowSums.{productSum}
 use Rattle.judge.specs.System.{System, Trial, row, residual, reach}
 
 -- coefficients of at most a, right-hand sides of at most b, figures of at most y
@@ -22,7 +22,7 @@ module _ (s : System) (t : Trial) (a b y : ℕ)
   residual-size i =
       omega (
         arith,
-        natAbs-subℤ (pos (t .D) *ℤ row s i .b) (sum (t .n) (λ j. row s i .A j *ℤ t .Y j)),
+        natAbs-subℤ (pos (t .D) *ℤ row s i .b) (productSum (row s i .A) (t .Y) (t .n)),
         natAbs-*ℤ (pos (t .D)) (row s i .b),
         mul-le-mul-left (t .D) (right-sides i),
         sum-bound (t .n) (a * y) (λ j. row s i .A j *ℤ t .Y j) (λ j l. product-ok (row s i .A j) (t .Y j) a y (coefficients (i * s .n + j)) (figures j)),

@@ -58,7 +58,7 @@ row s i = rowFrom (i * s .n) (s .rows .A) (s .rows .E) (getD (s .rows .b) i (pos
 abbrev pub trialFigures : List ℤ → ℕ → ℤ
 trialFigures Y j = getD Y j (pos 0)
 
--- the same over n tanks and the scale D
+-- the trial of these figures, over n tanks and the scale D
 abbrev pub trial : ℕ → ℕ → List ℤ → Trial
 trial n D Y = record { n = n; D = D; Y = trialFigures Y }
 

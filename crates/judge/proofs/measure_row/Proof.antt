@@ -1,4 +1,4 @@
--- `judge::measure_row` meets its contract: the two sums are within 2 ^ 49 and 2 ^ 50, so that nothing wraps beside D b and D f. Assumes nothing.
+-- `judge::measure_row` meets its contract: the two sums are at most 2 ^ 49 and 2 ^ 50 in size, so that with D b and D f nothing wraps. Assumes nothing.
 use Prim.Native.Nat.{_+_, _^_, _≤_}
 use borrow.Author.Needs.{needs}
 use lib.IntN.{ℤ, pos, natAbs, _-ℤ_, _*ℤ_}
@@ -14,6 +14,9 @@ use Rattle.judge.proofs.measure_row.Tie as tie
 
 -- what the two signed numbers are, read from their bits
 module _ (c : tie.After-struct-told) where
+  abbrev start : tie.Start
+  start = c .before .before .before .before
+
   abbrev scaled′ : ℤ
   scaled′ = c .before .before .scaled .result
 
@@ -24,11 +27,11 @@ module _ (c : tie.After-struct-told) where
   read-scaled = toZ-ofZ (record { sfits = c .before .before .scaled .ok })
 
   -- D b
-  scaled-is : scaled′ ≡ pos (c .before .before .before .before .args .scale) *ℤ c .before .before .before .before .args .right-side
-  scaled-is = rw (toZ-ofZ (c .before .before .before .before .fits .right-side)) at (c .before .before .scaled .ensures .0)
+  scaled-is : scaled′ ≡ pos (start .args .scale) *ℤ start .args .right-side
+  scaled-is = rw (toZ-ofZ (start .fits .right-side)) at (c .before .before .scaled .ensures .0)
 
   small : natAbs products′ ≤ 2 ^ 49
-  small = omega (arith, c .before .before .before .row-sums .ensures .1 .1 .0, c .before .before .before .before .pre .0)
+  small = omega (arith, c .before .before .before .row-sums .ensures .1 .1 .0, start .pre .0)
 
   read-products : toZ w64 (ofZ w64 products′) ≡ products′
   read-products = toZ-ofZ (sfits-size (omega (arith, small)))

@@ -12,7 +12,7 @@ use native.Mathlib.Omega.{arith}
 use Rattle.integers.specs.Signed.{wide-fits, wide-is}
 use Rattle.integers.specs.Size.{at-most, bounds, size-by, size-sfits, sfits-size, natAbs-+ℤ}
 use Rattle.judge.specs.RowSumLaws.{running-products, running-weights, running-more}
-use Rattle.judge.specs.RowSums.{addTank, runningSums}
+use Rattle.judge.specs.RowSums.{addTerms, runningSums}
 use Rattle.judge.specs.declared.RowSums.{RowSums}
 use Rattle.judge.specs.System.{coefficientsFrom, tolerancesFrom, trialFigures}
 use Rattle.judge.proofs.row_sums.Statement.{statement}
@@ -87,13 +87,13 @@ module _ (c : tie.After-products2 Inv-loop μ-loop) where
 
   -- the two sums with this tank's terms are the running sums of one tank more
   next :
-      addTank a′ e′ y′ (standing (at-loop .loop .products) (at-loop .loop .weights))
+      addTerms a′ e′ y′ (standing (at-loop .loop .products) (at-loop .loop .weights))
       ≡ runningSums
       (coefficientsFrom (start .args .from) (start .args .coefficients .now))
       (tolerancesFrom (start .args .from) (start .args .tolerances .now))
       (trialFigures (start .args .figures .now))
       (j′ + 1)
-  next = ap (addTank a′ e′ y′) (at-loop .loop .inv .0) ∙ sym (running-more _ _ _ j′)
+  next = ap (addTerms a′ e′ y′) (at-loop .loop .inv .0) ∙ sym (running-more _ _ _ j′)
 
 cast-products : tie.Need-cast-products Inv-loop μ-loop
 cast-products c = wide-fits w16 tt (getD (c .before .before .before .args .coefficients .now) _ (pos 0)) (record { sfits = c .products .given })
