@@ -691,6 +691,159 @@ def signs():
     return with_buffers(inputs)
 
 
+# ---------------------------------------------------------------- which trial is kept
+
+
+def rounds_of(data):
+    """The trials of the rounds as far as they come, and the refusal that ends them or 0."""
+    trials = []
+    try:
+        for trial in reference.trials_of(reference.take_case(data)):
+            trials.append(trial)
+    except reference.Refused as refused:
+        return trials, refused.number
+    return trials, 0
+
+
+def different_figures(trials):
+    """Whether the rows that decide these trials differ in |R| or T."""
+    judged = [(trial.judgement, trial.judgement.decides - 1) for trial in trials]
+    return len({(abs(judgement.residuals[row]), judgement.reaches[row]) for judgement, row in judged}) > 1
+
+
+def place_kind(trials, best, none):
+    """Where the least factor is, or that there is none; the first and the last of equals may differ."""
+    if len(trials) == 1:
+        return "one round"
+    if len(best) == 1:
+        place = {0: "the first", len(trials) - 1: "the last"}.get(best[0], "a middle")
+        return f"best in {place} round alone"
+    alike = "alike" if trials[best[0]].answer == trials[best[-1]].answer else "differing"
+    return f"no factor in any round, {alike}" if none else f"best in several rounds, {alike}"
+
+
+def unmet_kinds(trials):
+    """The kinds under which the trials of all rounds are counted if none is met."""
+    ranks = [reference.rank(trial) for trial in trials]
+    least = min(ranks)
+    best = [i for i, rank in enumerate(ranks) if rank == least]
+    without = [i for i, (none, _) in enumerate(ranks) if none]
+    found = ["no trial met", f"kept from round {best[0] + 1}", place_kind(trials, best, least[0])]
+    if ranks[-1] > least:
+        found.append("an earlier round better than the last")
+    if without and without[-1] == len(trials) - 1 and not least[0]:
+        found.append("kept with a factor, last without")
+    if without and without[0] < best[0]:
+        found.append("kept with a factor, an earlier one without")
+    if not least[0] and different_figures([trials[i] for i in best]):
+        found.append("least factor from different figures")
+    return found
+
+
+def trial_kinds(data):
+    """The kinds under which the trials of a sound case with rounds are counted."""
+    trials, number = rounds_of(data)
+    if number:
+        return [f"refusal {number} after trials"] if trials else []
+    if not trials[-1].judgement.met:
+        return unmet_kinds(trials)
+    differing = len({reference.rank(trial) for trial in trials[:-1]}) > 1
+    return ["met after trials that rank differently"] if differing else []
+
+
+def crowded(stream, n):
+    """Rows close to proportional, with right sides that hardly any answer solves."""
+    size, noise = stream.one_of((50, 900, 9_000, 30_000)), stream.one_of((1, 3, 20))
+    base, answer = stream.list(n, -size, size), stream.list(n, -300, 300)
+    e, rows = stream.one_of((0, 0, 1, 2, 3)), []
+    for _ in range(n):
+        tilt = stream.between(-16, 16)
+        row = [a * tilt // 16 + stream.between(-noise, noise) for a in base]
+        b = sum(a * y for a, y in zip(row, answer)) // 10 ** e + stream.between(-noise, noise)
+        rows.append((row, stream.list(n, 0, stream.between(0, 1)), b, stream.one_of((0, 1, 1, 2))))
+    return encode(e, stream.between(2, 8), rows)
+
+
+def steep(stream, n):
+    """Two tanks so alike that the second pivot is mostly rounding: rounds overshoot, circle or grow."""
+    rows = [[[stream.between(1, 99) * (i == j) for j in range(n)], stream.list(n, 0, stream.between(0, 1)),
+             stream.between(-999, 999), stream.between(1, 2)] for i in range(n)]
+    first = stream.between(0, n - 1)
+    second = (first + stream.between(1, n - 1)) % n
+    a, b, c = stream.list(2, 9_000, COEFFICIENT) + stream.list(1, 1, 9_000)
+    size = stream.one_of((10, 1_000, 100_000, 5_000_000))
+    for row, left, right in ((first, a, b), (second, c, b * c // a + stream.between(0, 1))):
+        rows[row][0] = [left * (j == first) + right * (j == second) for j in range(n)]
+        rows[row][1][first] = stream.one_of((0, 0, 1, left // 50))
+        rows[row][2] = stream.between(-size, size)
+    return encode(stream.between(0, 3), stream.between(2, 8), rows)
+
+
+def halving(stream, n):
+    """One tank a row; an answer on a half goes up and down for ever, any other stays where it is."""
+    rows = []
+    for i in range(n):
+        half, tolerances = stream.between(1, 9), [0] * n
+        tolerances[stream.between(0, n - 1)] = stream.one_of((0, 1, 2))
+        b = half * stream.one_of((1, 1, 1, -1, 3, 5, -7)) + stream.one_of((0, 0, stream.between(-half, half)))
+        rows.append(([2 * half * (i == j) for j in range(n)], tolerances, b, stream.one_of((0, 0, 1, 2))))
+    return encode(0, stream.between(2, 8), rows)
+
+
+def narrow(stream, n):
+    """Small answers and one tolerance a row: a row has no reach while that tank's figure is zero."""
+    most, rows = stream.one_of((3, 9, 30)), []
+    base = stream.list(n, -most, most)
+    for _ in range(n):
+        tilt, tolerances = stream.one_of((1, -1, 2, 0, 0)), [0] * n
+        tolerances[stream.between(0, n - 1)] = stream.one_of((1, 1, 2, 5))
+        row = [tilt * a + stream.between(-3, 3) for a in base]
+        rows.append((row, tolerances, stream.between(-most, most), stream.one_of((0, 0, 0, 1))))
+    return encode(0, stream.between(2, 8), rows)
+
+
+def balanced(stream, n):
+    """Two trials in turn, one row that decides both: equal factors of different figures, or nearly equal ones."""
+    rows = [[[2 * (i == j) for j in range(n)], [0] * n, stream.one_of((1, -3, 8)), 9] for i in range(n)]
+    first = stream.between(0, n - 1)
+    second = (first + stream.between(1, n - 1)) % n
+    factor, f, tolerance = stream.between(2, 5), stream.between(1, 4), stream.between(1, 3)
+    lean, large = stream.one_of((0, 0, -1, 1)) - tolerance * factor, stream.between(200, 999)
+    # the first tank's figure goes from 1 to 0 and back
+    rows[first] = [[40 * (j == first) for j in range(n)], [0] * n, 20, 20]
+    rows[second] = [[lean * (j == first) + large * (j == second) for j in range(n)],
+                    [tolerance * (j == first) for j in range(n)],
+                    f * factor + large * stream.between(-99, 99), f]
+    return encode(0, stream.between(2, 8), rows)
+
+
+# how many cases of each kind are looked for with each n
+WANTED_TRIALS = {
+    "best in the first round alone": 8, "best in a middle round alone": 8, "best in the last round alone": 7,
+    "best in several rounds, differing": 6, "best in several rounds, alike": 4,
+    "no factor in any round, differing": 5, "no factor in any round, alike": 3,
+    "kept with a factor, last without": 5, "kept with a factor, an earlier one without": 5,
+    "least factor from different figures": 4, "kept from round 7": 1, "kept from round 8": 1,
+    "met after trials that rank differently": 5, "refusal 9 after trials": 5,
+}
+
+
+def best_trials():
+    """Every kind of ranking for each n, as far as chance finds it, and some of the cases with one round."""
+    stream, inputs = Stream(15), []
+    for n in range(1, 9):
+        wanted = dict(WANTED_TRIALS)
+        for k in range(1_800):
+            data = (halving, narrow, crowded, steep, balanced)[k % (5 if n > 1 else 3)](stream, n)
+            due = [kind for kind in trial_kinds(data) if wanted.get(kind)]
+            if due:
+                inputs.append(data)
+            for kind in due:
+                wanted[kind] -= 1
+        inputs += [with_rounds(data, 1) for data in inputs[-3:]]
+    return with_buffers(inputs)
+
+
 FAMILIES = [
     ("edge trials", edge_trials), ("buffer lengths", buffer_lengths), ("every shape", every_shape),
     ("limits", limits), ("cuts", cuts), ("changed bytes", changed),
@@ -700,7 +853,7 @@ FAMILIES = [
     ("pivot ties", pivot_ties), ("row orders", row_orders), ("halves", halves), ("growth", growth),
     ("later rounds", later_rounds), ("outside", outside), ("close factors", close_factors),
     ("boundaries", boundaries), ("zero reaches", zero_reaches), ("equal factors", equal_factors),
-    ("extremes", extremes), ("signs", signs),
+    ("extremes", extremes), ("signs", signs), ("best trials", best_trials),
 ]
 
 

@@ -307,21 +307,43 @@ def gain(answer, d):
     return gained
 
 
-# "The first that is met ends the work; after round K the last trial stands." (which one is kept)
-def kept_trial(trials):
-    return trials[-1]
-
-
-# "Y starts at zero. A round: ... The new Y is judged. The first that is met ends the work"
-def work_out(case):
+# "Y starts at zero. A round: ... The new Y is judged. The first that is met ends the work" (trial by trial)
+def trials_of(case):
     elimination = eliminate(case.coefficients)
     answer = [0] * case.n
-    trials = []
-    while len(trials) < case.rounds:
+    for _ in range(case.rounds):
         answer = gain(answer, corrections(elimination, residuals(case, answer)))
-        trials.append(Trial(answer, judge(case, answer)))
-        if trials[-1].judgement.met:
+        judgement = judge(case, answer)
+        yield Trial(answer, judgement)
+        if judgement.met:
             break
+
+
+# "The recorded factor is |R| / T of the row in field 13 ...; there is none where that field says none."
+def trial_factor(trial):
+    row = trial.judgement.decides - 1
+    return factor(trial.judgement.residuals[row], trial.judgement.reaches[row])
+
+
+# "trials without a factor rank behind all others" (less is better)
+def rank(trial):
+    found = trial_factor(trial)
+    return (1, 0) if found is None else (0, found)
+
+
+# "the one with the least factor ... and the earliest of equals is taken" (as min does)
+def best_trial(trials):
+    return min(trials, key=rank)
+
+
+# "The first that is met ends the work" / "Where ... no trial of its rounds is met, the answer kept ..."
+def kept_trial(trials):
+    return trials[-1] if trials[-1].judgement.met else best_trial(trials)
+
+
+# "Rounds used is then K." (a trial that is met has its own round)
+def work_out(case):
+    trials = list(trials_of(case))
     return Finished(case, kept_trial(trials), len(trials))
 
 

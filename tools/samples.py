@@ -6,7 +6,7 @@
 
 NAME.case holds the bytes of the case, NAME.hex the same bytes in hexadecimal, one field
 a line with a comment after the number sign, and NAME.txt what `verdict` prints for it.
-The dump of soundings ends with a comment that gives each tank's depth.
+The dumps of soundings and best-trial end with a comment that gives each tank's depth.
 """
 
 import sys
@@ -56,6 +56,12 @@ def soundings():
     return encode(1, 3, [(coefficients, [0, 0, 0], b, f) for coefficients, b, f in rows])
 
 
+def best_trial():
+    """Two nearly dependent rows, five rounds and none met: the second has the least factor, 11, the last 239."""
+    return square([[30_700, 12_800], [3_600, 1_500]], [7_556_310, 885_620], f=10, rounds=5)
+
+
+WITH_DEPTHS = ("soundings", "best-trial")
 SAMPLES = {
     "one-tank": lambda: one(3, 1, 0, 1, e=1),
     "negative-answer": lambda: families.PRINTED,
@@ -66,6 +72,7 @@ SAMPLES = {
     "eight-tanks": eight_tanks,
     "spoiled": spoiled,
     "soundings": soundings,
+    "best-trial": best_trial,
 }
 
 
@@ -143,7 +150,7 @@ def make_files():
     for name, make in SAMPLES.items():
         data = make()
         files[f"{name}.case"] = data
-        text = dump(data) + (depths_comment(data) if name == "soundings" else "")
+        text = dump(data) + (depths_comment(data) if name in WITH_DEPTHS else "")
         files[f"{name}.hex"] = text.encode("ascii")
         files[f"{name}.txt"] = reference.verdict_text(data).encode("ascii")
     return files

@@ -197,32 +197,77 @@ def demanding(stream):
                            stream.one_of((0, 0, 1)), e=e, rounds=8)
 
 
+def depths_of(case, trial):
+    """The bytes of a trial's depths, or none for refusal 10."""
+    try:
+        return reference.depth_bytes(reference.Finished(case, trial, case.rounds))
+    except reference.Refused:
+        return b""
+
+
 def ending(data):
-    """The refusal of the soundings, or 0 for a count, and the rounds used, or 0 for 8 and 9."""
-    verdict, number_or_rounds = families.finished(data)
-    if verdict not in ("met", "unmet"):
-        return number_or_rounds, 0
-    outcome, _ = reference.call_soundings(data, 16)
-    return outcome.number if outcome.kind == reference.REFUSAL else 0, number_or_rounds
-
-
-def same_soundings(data, other):
-    return reference.call_soundings(data, 16) == reference.call_soundings(other, 16)
+    """The refusal, by the last trial 10 or 0; the rounds used, or 0 for 8 and 9; the last trial's depths."""
+    trials, number = families.rounds_of(data)
+    if number:
+        return number, 0, b""
+    depths = depths_of(reference.take_case(data), trials[-1])
+    return 0 if depths else 10, len(trials), depths
 
 
 def later_rounds():
-    """Ended by each round from 1 to 8; for a count of depths, one round less gives others or none."""
+    """Ended by each round from 1 to 8; a last trial inside the table has other depths than the one before."""
     stream, inputs = Stream(36), []
     wanted = {(0, r): 6 for r in range(1, 9)} | {(10, r): 3 for r in range(1, 9)} | {(9, 0): 20, (8, 0): 5}
     for _ in range(2_000):
         data = demanding(stream)
-        refusal, used = ending(data)
+        refusal, used, depths = ending(data)
         fewer = with_rounds(data, max(used - 1, 1))
-        if wanted[refusal, used] == 0 or refusal == 0 and used > 1 and same_soundings(data, fewer):
+        if wanted[refusal, used] == 0 or refusal == 0 and used > 1 and ending(fewer)[2] == depths:
             continue
         wanted[refusal, used] -= 1
         inputs += [data, fewer, with_rounds(data, max(used, 1))]
     return with_long_buffers(list(dict.fromkeys(inputs)))
+
+
+# ---------------------------------------------------------------- the trial kept where none is met
+
+
+def wavering(stream):
+    """Rows close to proportional, solved by tonnes inside the table but for a little on the right sides."""
+    n, e, noise = stream.between(1, 8), stream.between(0, 3), stream.one_of((1, 2, 5))
+    base, tonnes, rows = stream.list(n, -32_000, 32_000), stream.list(n, 0, 520), []
+    f = stream.one_of((0, 1, 1, 1))
+    for _ in range(n):
+        tilt = stream.between(-16, 16)
+        coefficients = [a * tilt // 16 + stream.between(-noise, noise) for a in base]
+        b = sum(a * y for a, y in zip(coefficients, tonnes)) + stream.between(-noise, noise)
+        rows.append((coefficients, [0] * n, b, f))
+    return encode(e, stream.between(2, 8), rows)
+
+
+def kept_and_last(data):
+    """How the depths of the trial kept and of the last one differ where no trial is met, or nothing."""
+    trials, number = families.rounds_of(data)
+    if number or trials[-1].judgement.met:
+        return ""
+    case = reference.take_case(data)
+    kept, last = (depths_of(case, trial) for trial in (reference.kept_trial(trials), trials[-1]))
+    if kept == last:
+        return ""
+    return "both inside, differing" if kept and last else "last outside" if kept else "kept outside"
+
+
+def best_trials():
+    """The depths are those of the trial kept: the last one has others, or only one of the two is inside."""
+    stream, inputs = Stream(37), []
+    wanted = {"both inside, differing": 40, "last outside": 12, "kept outside": 12}
+    while any(wanted.values()):
+        data = wavering(stream)
+        kind = kept_and_last(data)
+        if wanted.get(kind):
+            wanted[kind] -= 1
+            inputs.append(data)
+    return with_long_buffers(inputs)
 
 
 # ---------------------------------------------------------------- refusals before 10
@@ -318,6 +363,7 @@ FAMILIES = [
     ("several outside", several_outside), ("verdicts", verdicts), ("planted", planted),
     ("later rounds", later_rounds), ("refusal 8", eight), ("refusal 9", nine), ("cuts", cuts),
     ("changed heads", changed_heads), ("spoiled figures", spoiled_figures), ("precedence", precedence),
+    ("best trials", best_trials),
 ]
 
 

@@ -10,6 +10,7 @@ import os
 import subprocess
 import sys
 import unittest
+from collections import Counter
 from fractions import Fraction
 from unittest import mock
 
@@ -96,24 +97,45 @@ def step_by_step_round(case, steps, y):
     return new if all(-10_000_000 <= new[i] <= 10_000_000 for i in span) else None
 
 
+def above(pair, other):
+    """Whether |R| / T of one pair is above the other's, by cross products: T 0 is above every other."""
+    return pair[0] * other[1] > other[0] * pair[1]
+
+
+def worst_pair(case, answer):
+    """|R| and T of a row that no other row is above, 0 and 1 standing for 0 and 0."""
+    worst = (0, 1)
+    for a, e, b, f in zip(case.coefficients, case.tolerances, case.right_sides, case.right_tolerances):
+        residual = abs(10 ** case.e * b - sum(a[j] * answer[j] for j in range(case.n)))
+        reach = 10 ** case.e * f + sum(e[j] * abs(answer[j]) for j in range(case.n))
+        if residual > 0 and above((residual, reach), worst):
+            worst = (residual, reach)
+    return worst
+
+
 def every_row_feasible(case, answer):
+    if case.n > 5:  # the boxes have too many corners
+        return not above(worst_pair(case, answer), (1, 1))
     return all(feasible(case, i, answer, Fraction(1)) for i in range(case.n))
 
 
 def step_by_step(case):
-    """(answer, rounds used), or 8 or 9, by the two functions above."""
+    """(answer, rounds used), or 8 or 9, by the functions above."""
     steps = step_by_step_elimination(case)
     if steps is None:
         return 8
-    y = {i: 0 for i in range(1, case.n + 1)}
+    y, kept, least = {i: 0 for i in range(1, case.n + 1)}, None, None
     for used in range(1, case.rounds + 1):
         y = step_by_step_round(case, steps, y)
         if y is None:
             return 9
         answer = [y[i] for i in range(1, case.n + 1)]
         if every_row_feasible(case, answer):
-            break
-    return answer, used
+            return answer, used
+        worst = worst_pair(case, answer)
+        if kept is None or above(least, worst):
+            kept, least = answer, worst
+    return kept, case.rounds
 
 
 def misses(case, i, answer, limit):
@@ -312,7 +334,9 @@ class Steps(unittest.TestCase):
         checked = 0
         for family, data, _ in INPUTS:
             case = reference.read_case(data)
-            if isinstance(case, int) or case.rounds == 0 or case.n > 5 or family == "every shape":
+            if isinstance(case, int) or case.rounds == 0 or family == "every shape":
+                continue
+            if case.n > 5 and family != "best trials":
                 continue
             expected = step_by_step(case)
             try:
@@ -361,8 +385,138 @@ class Steps(unittest.TestCase):
 
     def test_a_correction_at_its_limit_passes(self):
         data = square([[20_736, 2_271], [10_098, 1_106]], [0, 234_375], rounds=2)
-        self.assertEqual(finished_record(families.with_rounds(data, 1)).answer, [-1_095_197, 10_000_000])
-        self.assertEqual(finished_record(data).answer, [1_095_197, -10_000_000])
+        answers = [trial.answer for trial in reference.trials_of(reference.read_case(data))]
+        self.assertEqual(answers, [[-1_095_197, 10_000_000], [1_095_197, -10_000_000]])
+        self.assertEqual(reference.call(data, 180)[0], Outcome(COUNT, 60))
+
+
+def trial_of(figure, *pairs):
+    """A trial that brings this figure and has rows with these residuals and reaches."""
+    row_residuals, row_reaches = (list(figures) for figures in zip(*pairs))
+    unmet = reference.first_unmet_row(row_residuals, row_reaches)
+    none, decides = reference.deciding([reference.factor(*pair) for pair in pairs])
+    judgement = reference.Judgement(unmet == 0, unmet, row_residuals, row_reaches, none, decides)
+    return reference.Trial([figure], judgement)
+
+
+# least numbers of the stored cases' kinds
+KINDS_DUE = {
+    "no trial met": 300, "an earlier round better than the last": 150, "one round": 20,
+    "best in the first round alone": 20, "best in a middle round alone": 20, "best in the last round alone": 20,
+    "best in several rounds, differing": 20, "best in several rounds, alike": 20,
+    "least factor from different figures": 20,
+    "no factor in any round, differing": 20, "no factor in any round, alike": 20,
+    "kept with a factor, last without": 20, "kept with a factor, an earlier one without": 20,
+    "met after trials that rank differently": 20, "refusal 9 after trials": 20,
+} | {f"kept from round {r}": 4 for r in range(1, 9)}
+
+
+class KeptTrials(unittest.TestCase):
+    """Document 02, "Keep the best trial"."""
+
+    def kept(self, *trials):
+        """The figure of the trial kept of these."""
+        return reference.kept_trial([trial_of(k, *pairs) for k, pairs in enumerate(trials, 1)]).answer[0]
+
+    def rounds(self, data):
+        """Answer and factor of every trial."""
+        trials, _ = families.rounds_of(data)
+        return [(trial.answer, reference.trial_factor(trial)) for trial in trials]
+
+    def check(self, data, answer, rounds_used, **expected):
+        record = finished_record(data)
+        self.assertEqual((record.answer, record.rounds_used), (answer, rounds_used))
+        for name, value in expected.items():
+            self.assertEqual(getattr(record, name), value, name)
+
+    def test_the_least_factor_wherever_it_is(self):
+        three, two, five = [(3, 1), (0, 0)], [(-4, 9), (-8, 4)], [(5, 2), (5, 1)]
+        for order in itertools.permutations([three, two, five]):
+            self.assertEqual(self.kept(*order), order.index(two) + 1)
+
+    def test_the_row_that_decides_ranks_a_trial(self):
+        # not the first unmet row, not the greatest residual, not the sum of the rows
+        self.assertEqual(self.kept([(2, 1), (9, 1)], [(4, 1), (4, 1)]), 2)
+        self.assertEqual(self.kept([(500, 100), (0, 1)], [(6, 1), (0, 1)]), 1)
+        self.assertEqual(self.kept([(5, 1), (0, 1)], [(4, 1), (4, 1)]), 2)
+
+    def test_the_earliest_of_equals(self):
+        self.assertEqual(self.kept([(5, 1)], [(6, 2)], [(-9, 3)], [(3, 1)]), 2)
+        self.assertEqual(self.kept([(3, 1)], [(6, 2)]), 1)
+
+    def test_without_a_factor_behind_all_others(self):
+        none, large = [(0, 5), (1, 0)], [(10 ** 12, 1), (0, 0)]
+        self.assertEqual(self.kept(none, large), 2)
+        self.assertEqual(self.kept(large, none), 1)
+        self.assertEqual(self.kept(none, [(-7, 0), (1, 1)], none), 1)
+        self.assertEqual(self.kept(none, large, none, [(3, 1), (1, 1)], none), 4)
+
+    def test_factors_that_only_exact_fractions_tell_apart(self):
+        r, s, t = 956_722_026_041, 591_286_729_879, 365_435_296_162
+        self.assertEqual(r * t - s * s, 1)
+        self.assertEqual(self.kept([(r, s)], [(s, t)]), 2)
+        self.assertEqual(self.kept([(s, t)], [(r, s)]), 1)
+
+    def test_an_earlier_round_is_better(self):
+        data = samples.best_trial()
+        found = [([61, 443], 1321), ([46, 480], 11), ([50, 471], 749), ([49, 474], 1519), ([49, 473], 239)]
+        self.assertEqual(self.rounds(data), found)
+        for rounds, answer in ((1, [61, 443]), (2, [46, 480]), (3, [46, 480]), (5, [46, 480])):
+            self.check(families.with_rounds(data, rounds), answer, rounds, met=0, first_unmet=1)
+        self.check(data, [46, 480], 5, residuals=[110, 20], reaches=[10, 10], none=0, decides=1)
+
+    def test_one_tank_on_a_half(self):
+        """The answer goes up and down between two figures."""
+        for rounds in range(1, 9):
+            self.check(one(6, 9, 0, 1, rounds=rounds), [2], rounds, residuals=[-3], reaches=[1])
+            self.check(one(6, 9, 1, 0, rounds=rounds), [2], rounds, residuals=[-3], reaches=[2])
+            self.check(one(6, 3, 1, 0, rounds=rounds), [1], rounds, none=0, residuals=[-3], reaches=[1])
+            self.check(one(6, 3, 0, 0, rounds=rounds), [1], rounds, none=1, residuals=[-3], reaches=[0])
+        self.assertEqual(self.rounds(one(6, 9, 0, 1, rounds=3)), [([2], 3), ([1], 3), ([2], 3)])
+        self.assertEqual(self.rounds(one(6, 3, 1, 0, rounds=3)), [([1], 3), ([0], None), ([1], 3)])
+
+    def test_first_trials_without_a_factor(self):
+        data = encode(0, 4, [([4, 1], [1, 0], 9, 0), ([-1, 1], [0, 0], 6, 0)])
+        self.assertEqual(self.rounds(data), [([1, 6], None), ([0, 7], None), ([1, 7], 2), ([1, 6], None)])
+        for rounds, answer, none in ((1, [1, 6], 1), (2, [1, 6], 1), (3, [1, 7], 0), (4, [1, 7], 0)):
+            self.check(families.with_rounds(data, rounds), answer, rounds, none=none)
+
+    def test_a_trial_that_is_met_ends_the_work(self):
+        data = square([[11_900, 13_700], [3_300, 3_800]], [8_830_700, 2_449_200], f=1, rounds=8)
+        found = [([179, 489], 1300), ([236, 440], 5700), ([253, 425], 2500), ([260, 419], 3600)]
+        self.assertEqual(self.rounds(data), found + [([262, 417], 0)])
+        self.check(data, [262, 417], 5, met=1, first_unmet=0)
+        self.check(families.with_rounds(data, 4), [179, 489], 4, met=0)
+
+    def test_refusal_9_after_a_good_trial(self):
+        data = square([[20_736, 2_271], [10_098, 1_106]], [0, 234_375], f=1, rounds=3)
+        self.assertEqual([factor for _, factor in self.rounds(data)], [466_319, 935_069])
+        self.assertEqual(reference.call(data, 180), (Outcome(REFUSAL, 9), b"\xa5" * 180))
+        self.assertEqual(reference.call_soundings(data, 16), (Outcome(REFUSAL, 9), b"\xa5" * 16))
+        self.check(families.with_rounds(data, 2), [-1_095_197, 10_000_000], 2)
+
+    def test_depths_of_the_trial_kept(self):
+        outcome, buffer = reference.call_soundings(samples.best_trial(), 16)
+        self.assertEqual(outcome, Outcome(COUNT, 4))
+        due = b"".join(depth_by_root(figure, 0).to_bytes(2, "big") for figure in (46, 480))
+        self.assertEqual(buffer, due + b"\xa5" * 12)
+
+    def test_stored_cases_of_every_kind(self):
+        stored = {data for _, data, length in INPUTS if length >= 180}
+        worked = [data for data in sorted(stored) if getattr(reference.read_case(data), "rounds", 0)]
+        found = Counter(kind for data in worked for kind in families.trial_kinds(data))
+        for kind, least in KINDS_DUE.items():
+            self.assertGreaterEqual(found[kind], least, kind)
+        unmet = [data for name, data, _ in INPUTS if name == "best trials"
+                 and "no trial met" in families.trial_kinds(data)]
+        self.assertGreaterEqual(len(set(unmet)), 300)
+        self.assertEqual({data[3] for data in unmet}, set(range(1, 9)))
+        self.assertEqual({data[5] for data in unmet}, set(range(1, 9)))
+
+    def test_stored_soundings_of_every_kind(self):
+        found = Counter(sounding_calls.kept_and_last(data) for name, data, _ in CALLS if name == "best trials")
+        self.assertGreaterEqual(found["both inside, differing"], 30)
+        self.assertGreaterEqual(min(found["last outside"], found["kept outside"]), 10)
 
 
 class Determinants(unittest.TestCase):
@@ -845,7 +999,42 @@ class Mistakes(Caught, unittest.TestCase):
         self.caught("CORRECTION_LIMIT", 19_999_999, least=1)
         self.caught("ANSWER_LIMIT", 9_999_999)
         self.caught("ANSWER_LIMIT", 10_000_001)
+
+    def test_which_trial_is_kept(self):
+        right = reference.rank
+
+        def first_unmet(trial):
+            judgement, row = trial.judgement, trial.judgement.first_unmet - 1
+            return right(trial_of(0, (judgement.residuals[row], judgement.reaches[row])))
+
+        def none_first(trial):
+            none, found = right(trial)
+            return -none, found
+
         self.caught("kept_trial", lambda trials: trials[0])
+        self.caught("kept_trial", lambda trials: trials[-1])
+        self.caught("best_trial", lambda trials: min(trials[::-1], key=right))
+        self.caught("best_trial", lambda trials: max(trials, key=right))
+        self.caught("best_trial", lambda trials: trials[-1] if right(trials[0])[0] else min(trials, key=right))
+        self.caught("rank", first_unmet)
+        self.caught("rank", none_first)
+        self.caught("rank", lambda trial: max(abs(residual) for residual in trial.judgement.residuals))
+        self.caught("rank", lambda trial: right(trial)[::-1])
+
+    def test_rounds_used(self):
+        def own_round(case):
+            trials = list(reference.trials_of(case))
+            kept = reference.kept_trial(trials)
+            return reference.Finished(case, kept, trials.index(kept) + 1)
+
+        def stopped(case):
+            trials, number = families.rounds_of(reference.case_bytes(case))
+            if not trials:
+                raise reference.Refused(number)
+            return reference.Finished(case, reference.kept_trial(trials), len(trials))
+
+        self.caught("work_out", own_round)
+        self.caught("work_out", stopped)
 
     def test_sign_of_an_answer(self):
         def wrong(figure, e):
@@ -910,6 +1099,7 @@ class SoundingMistakes(Caught, unittest.TestCase):
         self.caught("depth_bytes", turned)
         self.caught("depth_bytes", met_only)
         self.caught("kept_trial", lambda trials: trials[0])
+        self.caught("kept_trial", lambda trials: trials[-1])
 
 
 if __name__ == "__main__":

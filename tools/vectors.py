@@ -184,12 +184,13 @@ def kinds(data, length):
             result = reference.work(data, length)
         except reference.Refused as refused:
             by = f" by {refused.place}" if refused.place else ""
-            return [f"refusal {refused.number}{by}"]
+            before = families.trial_kinds(data) if refused.number == 9 else []
+            return [f"refusal {refused.number}{by}", *before]
     found = judgement_kinds(result) + sorted(halves.places)
     coefficients = result.case.coefficients
     if result.case.rounds and reference.eliminate(coefficients).permutation != list(range(result.case.n)):
         found.append("rows exchanged")
-    return found
+    return found + (families.trial_kinds(data) if result.case.rounds else [])
 
 
 def write_kinds():
@@ -233,16 +234,18 @@ def sounding_kinds(data, length):
     d = reference.scale(case)
     came = "worked out" if case.rounds else "brought"
     verdict = "met" if judgement.met else "unmet"
+    other = sounding_calls.kept_and_last(data) if case.rounds else ""
+    apart = [f"kept and last trial, {other}"] if other else []
     if any(reference.outside_table(figure, d) for figure in answer):
-        return ["refusal 10", f"refusal 10, {came}, {verdict}", *outside_kinds(answer, d)]
-    found = {kind for figure in answer for kind in figure_kinds(figure, d)}
-    return ["count", f"count, {came}, {verdict}", f"count, n {case.n}", f"count, D {d}", *sorted(found)]
+        return ["refusal 10", f"refusal 10, {came}, {verdict}", *outside_kinds(answer, d), *apart]
+    found = sorted({kind for figure in answer for kind in figure_kinds(figure, d)})
+    return ["count", f"count, {came}, {verdict}", f"count, n {case.n}", f"count, D {d}", *found, *apart]
 
 
 def print_counts(title, counts):
     print(title)
     for kind, count in sorted(counts.items()):
-        print(f"  {kind:40}{count:7}")
+        print(f"  {kind:44}{count:7}")
 
 
 def print_calls(title, inputs, kinds_of):

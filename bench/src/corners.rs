@@ -1,7 +1,9 @@
 //! Sound cases that chance would hardly find.
 
-use crate::figures::{Figures, List, MOST_ANSWER, MOST_RIGHT_SIDE, MOST_ROUNDS};
+use crate::coefficients::{coefficients, Style};
+use crate::figures::{moment, Figures, List, MOST_ANSWER, MOST_RIGHT_SIDE, MOST_ROUNDS};
 use crate::random::Random;
+use crate::twin::MOST_TANKS;
 
 /// Gives the first two rows factors that only exact arithmetic can tell apart: |residual| / reach of the one and of the other are
 /// neighbouring convergents of a continued fraction, so that their cross products differ by 1.
@@ -89,6 +91,46 @@ pub fn largest_correction(figures: &mut Figures, random: &mut Random) {
     figures.coefficients[1][..2].copy_from_slice(&[103, 75]);
     figures.right_sides[0] = sign * (362_747_091 + random.within(most_change));
     figures.right_sides[1] = sign * 402_624;
+}
+
+/// Makes the first two rows multiples of one, but not quite their right sides. What rounding leaves of a pivot leads each round further on,
+/// to an answer of its own with a factor of its own, and the best may be any.
+pub fn dependent_rows(figures: &mut Figures, random: &mut Random) {
+    let n = figures.n.max(2);
+    *figures = Figures {
+        n,
+        exponent: figures.exponent,
+        rounds: figures.rounds,
+        coefficients: coefficients(Style::Full, n, random),
+        right_tolerances: [1; MOST_TANKS],
+        ..Figures::default()
+    };
+    let common = figures.coefficients[0].map(|coefficient| coefficient / 7);
+    figures.coefficients[0] = common.map(|coefficient| 7 * coefficient);
+    figures.coefficients[1] = common.map(|coefficient| 3 * coefficient);
+    let tonnes = [(); MOST_TANKS].map(|_| random.within(3000));
+    for i in 0..n {
+        figures.right_sides[i] = moment(&figures.coefficients[i], &tonnes) + random.within(9);
+    }
+}
+
+/// One tank a row, and an answer on a half: the rounds lead up and down between two figures. Their factors are equal or differ, or one of
+/// the two has none.
+pub fn on_halves(figures: &mut Figures, random: &mut Random) {
+    let n = figures.n;
+    *figures = Figures {
+        n,
+        rounds: figures.rounds,
+        ..Figures::default()
+    };
+    for i in 0..n {
+        let half = random.between(1, 9);
+        figures.coefficients[i][i] = 2 * half * random.pick(&[1, -1]);
+        figures.right_sides[i] = half * random.pick(&[1, 1, -1, 3, 5, -7]);
+        figures.tolerances[i][random.below(n)] = random.between(0, 2);
+        figures.right_tolerances[i] = random.pick(&[0, 1, 2]);
+        figures.trial[i] = random.within(4);
+    }
 }
 
 fn rounded(value: f64) -> i64 {

@@ -24,6 +24,12 @@ pub struct Figures {
     pub trial: List,
 }
 
+/// The moment of these tonnes.
+pub fn moment(coefficients: &[i64], tonnes: &[i64]) -> i64 {
+    let terms = coefficients.iter().zip(tonnes);
+    terms.map(|(coefficient, y)| coefficient * y).sum()
+}
+
 impl Figures {
     /// D, the number of parts that an answer counts in a tonne.
     pub fn unit(&self) -> i64 {

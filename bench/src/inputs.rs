@@ -1,7 +1,9 @@
 //! Inputs for the differential test: sound cases of every kind, and spoiled ones.
 
 use crate::coefficients::{coefficients, table, Style, STYLES};
-use crate::corners::{largest_correction, neighbouring_factors, overshooting};
+use crate::corners::{
+    dependent_rows, largest_correction, neighbouring_factors, on_halves, overshooting,
+};
 use crate::entries::near_entries;
 use crate::figures::{
     Figures, List, Table, MOST_ANSWER, MOST_COEFFICIENT, MOST_EXPONENT, MOST_RIGHT_SIDE,
@@ -58,6 +60,8 @@ fn figures(random: &mut Random) -> Figures {
         4..8 => overshooting(&mut figures, random),
         8 => largest_correction(&mut figures, random),
         9..25 => fill_reference_tanks(&mut figures, random),
+        25..29 => dependent_rows(&mut figures, random),
+        29..31 => on_halves(&mut figures, random),
         _ => {}
     }
     figures

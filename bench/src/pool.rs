@@ -1,8 +1,9 @@
 //! Cases for measuring: sound, refused by neither contestant, and with a known number of rounds.
 
 use crate::coefficients::{coefficients, table, Style};
+use crate::corners::dependent_rows;
 use crate::entries::MOST_TONNES;
-use crate::figures::{Figures, MOST_RIGHT_SIDE, MOST_ROUNDS};
+use crate::figures::{moment, Figures, MOST_RIGHT_SIDE, MOST_ROUNDS};
 use crate::random::Random;
 use crate::twin::{self, MOST_TANKS, RECORD_ROOM, SOUNDINGS_ROOM};
 
@@ -11,12 +12,19 @@ pub const POOL_SIZE: usize = 256;
 pub const TANKS: [usize; 4] = [1, 2, 4, 8];
 pub const ROUNDS: [usize; 3] = [0, 1, 8];
 pub const SOUNDINGS_ROUNDS: [usize; 2] = [0, 1];
+/// One tank's answer never leaves two neighbouring figures, so that there is little to rank.
+pub const RANKED_TANKS: [usize; 3] = [2, 4, 8];
+
+/// The length of a record's first field, which says how many rounds are used.
+const HEAD_LENGTH: usize = 6;
 
 /// What the pools hold, for a reader of the figures.
 pub const DESCRIPTION: &str = "\
 Cases: half with one large coefficient in each row and column, half with coefficients from the full range; 0 to 3 decimals.
 K = 0 judges the trial that 8 rounds work out; K = 1 has one round; both have tolerances from zero to small.
-K = 8 really uses all 8 rounds: the tolerances are zero, or 1 on the right side only, and no round's answer is met.
+K = 8 really uses all 8 rounds: the tolerances are zero, or 1 on the right side only, and no round's answer is met. Half of these cases
+have no factor in any round, and in most others all rounds from the second or third on have the same answer. For rank two rows are
+dependent: every round has a factor and nearly every one an answer of its own, and the best is neither the first nor the last.
 For soundings every answer is one that the reference tank holds, from 0 to 520 tonnes.";
 
 pub struct Entry {
@@ -41,6 +49,21 @@ pub fn soundings_pool(n: usize, rounds: usize, seed: u64) -> Vec<Entry> {
         }
         accepted(figures)
             .filter(|entry| twin::soundings(&entry.bytes, &mut [0; SOUNDINGS_ROOM]).is_ok())
+    })
+}
+
+/// The pool of one cell for ranking, with all rounds; it depends on nothing but these two numbers.
+pub fn ranked_pool(n: usize, seed: u64) -> Vec<Entry> {
+    let mut random = cell_random(n, MOST_ROUNDS, seed);
+    filled(|_| {
+        let mut figures = Figures {
+            n,
+            rounds: MOST_ROUNDS,
+            exponent: random.below(4),
+            ..Figures::default()
+        };
+        dependent_rows(&mut figures, &mut random);
+        accepted(figures).filter(best_in_between)
     })
 }
 
@@ -78,6 +101,18 @@ fn candidate(n: usize, rounds: usize, place: usize, random: &mut Random) -> Figu
     figures
 }
 
+/// Whether the best trial of the rounds is neither the first nor the last. A trial that is not kept leaves the record as it was.
+fn best_in_between(entry: &Entry) -> bool {
+    let [first, former, last] = [1, MOST_ROUNDS - 1, MOST_ROUNDS].map(|rounds| {
+        let figures = Figures {
+            rounds,
+            ..entry.figures.clone()
+        };
+        record(&figures.encode()).map(|record| record[HEAD_LENGTH..].to_vec())
+    });
+    first != former && former == last
+}
+
 /// A moment of up to about 3,000 tonnes in each tank.
 fn right_side(coefficients: &[i64], random: &mut Random) -> i64 {
     let sum: i64 = coefficients
@@ -85,12 +120,6 @@ fn right_side(coefficients: &[i64], random: &mut Random) -> i64 {
         .map(|coefficient| coefficient * random.within(3000))
         .sum();
     (sum + random.within(99)).clamp(-MOST_RIGHT_SIDE, MOST_RIGHT_SIDE)
-}
-
-/// The moment of these tonnes.
-fn moment(coefficients: &[i64], tonnes: &[i64]) -> i64 {
-    let terms = coefficients.iter().zip(tonnes);
-    terms.map(|(coefficient, y)| coefficient * y).sum()
 }
 
 /// The candidate with its trial, if it brings one, provided that it is finished in the way the description says.
@@ -106,7 +135,7 @@ fn accepted(mut figures: Figures) -> Option<Entry> {
         figures.rounds = 0;
     }
     let bytes = figures.encode();
-    let [.., met, _, used] = record(&bytes)?[..6] else {
+    let [.., met, _, used] = record(&bytes)?[..HEAD_LENGTH] else {
         return None;
     };
     let fits = usize::from(used) == wanted && (met == 0 || wanted < MOST_ROUNDS);

@@ -50,7 +50,7 @@ pub fn judge_case(input: &[u8], out: &mut [u8]) -> Result<usize, Refusal> {
     if case.rounds > 0 {
         answer.refine(&case)?;
     }
-    Ok(record::write(case.n, &answer, out))
+    Ok(record::write(case.n, &mut answer, out))
 }
 
 /// Leaves each tank's depth at the front of `out` and returns their length. A refusal leaves `out` as it was.

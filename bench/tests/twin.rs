@@ -171,9 +171,117 @@ fn the_largest_correction_is_allowed() {
     figures.coefficients[0][..2].copy_from_slice(&[29_539, 21_583]);
     figures.coefficients[1][..2].copy_from_slice(&[103, 75]);
     figures.right_sides[..2].copy_from_slice(&[362_747_091, 402_624]);
+    // row 1 decides, and has the smaller residual after the second round
+    figures.right_tolerances[..2].copy_from_slice(&[1, 1_000_000_000]);
     assert!(printed(&figures.encode()).contains("rounds 2\nanswer 1 7318892\nanswer 2 -10000000\n"));
     figures.rounds = 1;
     assert!(printed(&figures.encode()).contains("rounds 1\nanswer 1 -7294331\nanswer 2 10000000\n"));
+}
+
+/// One tank whose answer is on a half, so that rounds lead up and down for ever.
+#[test]
+fn the_first_of_equals_is_kept_and_one_with_a_factor() {
+    for rounds in 1..=8 {
+        for (e, b, f, expected) in [
+            (
+                0,
+                9,
+                1,
+                "answer 1 2\nrow 1 residual -3 reach 1\nfactor row 1\n",
+            ),
+            (
+                1,
+                9,
+                0,
+                "answer 1 2\nrow 1 residual -3 reach 2\nfactor row 1\n",
+            ),
+            (
+                1,
+                3,
+                0,
+                "answer 1 1\nrow 1 residual -3 reach 1\nfactor row 1\n",
+            ),
+            (
+                0,
+                3,
+                0,
+                "answer 1 1\nrow 1 residual -3 reach 0\nfactor none row 1\n",
+            ),
+        ] {
+            let case = one_tank(0, rounds, 6, e, b, f, 0);
+            assert_eq!(
+                printed(&case),
+                format!("unmet row 1 rounds {rounds}\n{expected}")
+            );
+        }
+    }
+}
+
+#[test]
+fn the_best_trial_is_kept_until_one_is_met() {
+    let mut figures = Figures {
+        n: 2,
+        right_tolerances: [1; MOST_TANKS],
+        ..Figures::default()
+    };
+    figures.coefficients[0][..2].copy_from_slice(&[11_900, 13_700]);
+    figures.coefficients[1][..2].copy_from_slice(&[3_300, 3_800]);
+    figures.right_sides[..2].copy_from_slice(&[8_830_700, 2_449_200]);
+    // the factors are 1300, 5700, 2500, 3600 and 0
+    for rounds in 1..=8 {
+        figures.rounds = rounds;
+        let (first_lines, depths_due) = if rounds < 5 {
+            let verdict = format!("unmet row 1 rounds {rounds}\n");
+            (verdict + "answer 1 179\nanswer 2 489\n", [167, 381])
+        } else {
+            let verdict = "met row 0 rounds 5\n".to_string();
+            (verdict + "answer 1 262\nanswer 2 417\n", [231, 337])
+        };
+        let case = figures.encode();
+        assert!(printed(&case).starts_with(&first_lines));
+        assert_eq!(depths(&case), Ok(depths_due.to_vec()));
+    }
+}
+
+#[test]
+fn a_trial_without_a_factor_is_replaced() {
+    let mut figures = Figures {
+        n: 2,
+        ..Figures::default()
+    };
+    figures.coefficients[0][..2].copy_from_slice(&[4, 1]);
+    figures.coefficients[1][..2].copy_from_slice(&[-1, 1]);
+    figures.tolerances[0][0] = 1;
+    figures.right_sides[..2].copy_from_slice(&[9, 6]);
+    for (rounds, expected) in [
+        (1, "answer 1 1\nanswer 2 6\n"),
+        (2, "answer 1 1\nanswer 2 6\n"),
+        (3, "answer 1 1\nanswer 2 7\n"),
+        (4, "answer 1 1\nanswer 2 7\n"),
+    ] {
+        figures.rounds = rounds;
+        let text = printed(&figures.encode());
+        assert!(
+            text.contains(&format!(" rounds {rounds}\n{expected}")),
+            "{text}"
+        );
+    }
+}
+
+#[test]
+fn a_good_trial_does_not_save_a_later_refusal() {
+    let mut figures = Figures {
+        n: 2,
+        rounds: 2,
+        right_tolerances: [1; MOST_TANKS],
+        ..Figures::default()
+    };
+    figures.coefficients[0][..2].copy_from_slice(&[20_736, 2_271]);
+    figures.coefficients[1][..2].copy_from_slice(&[10_098, 1_106]);
+    figures.right_sides[1] = 234_375;
+    assert!(printed(&figures.encode()).contains(" rounds 2\nanswer 1 -1095197\n"));
+    figures.rounds = 3;
+    assert_eq!(printed(&figures.encode()), "refused 9\n");
 }
 
 #[test]

@@ -4,6 +4,7 @@ use super::reading::{Case, Row};
 use super::MOST_TANKS;
 
 /// What an answer leaves in each row of a case. Only the first `n` of each list count.
+#[derive(Clone)]
 pub struct Judgement {
     /// D * b less the sum of A * Y.
     pub residuals: [i64; MOST_TANKS],
@@ -11,6 +12,8 @@ pub struct Judgement {
     pub reaches: [i64; MOST_TANKS],
     /// The first unmet row, counted from 1, or 0 where all are met.
     pub first_unmet: u8,
+    /// Found when it is first asked for: rounds that are met or alone need no ranking, and soundings no factor.
+    deciding: Option<Deciding>,
 }
 
 impl Judgement {
@@ -20,6 +23,7 @@ impl Judgement {
             residuals: [0; MOST_TANKS],
             reaches: [0; MOST_TANKS],
             first_unmet: 0,
+            deciding: None,
         };
         judgement.judge(case, answer);
         judgement
@@ -28,6 +32,7 @@ impl Judgement {
     /// Judges another answer to the same case.
     pub fn judge(&mut self, case: &Case, answer: &[i64]) {
         self.first_unmet = 0;
+        self.deciding = None;
         for (i, row) in case.rows[..case.n].iter().enumerate() {
             let (residual, reach) = row.residual_and_reach(case.unit, answer);
             self.residuals[i] = residual;
@@ -42,28 +47,44 @@ impl Judgement {
         self.first_unmet == 0
     }
 
-    /// Whether the deciding row has no factor, and which row decides, counted from 1.
-    pub fn deciding_row(&self, n: usize) -> (bool, u8) {
-        let mut greatest = Factor {
-            residual: 0,
-            reach: 1,
+    /// The row that decides for these `n` rows.
+    pub fn deciding(&mut self, n: usize) -> Deciding {
+        match self.deciding {
+            Some(deciding) => deciding,
+            None => *self.deciding.insert(self.find_deciding(n)),
+        }
+    }
+
+    fn find_deciding(&self, n: usize) -> Deciding {
+        let mut deciding = Deciding {
+            row: 1,
+            factor: Factor {
+                residual: 0,
+                reach: 1,
+            },
         };
-        let mut deciding = 0;
         for (i, (residual, &reach)) in self.residuals[..n].iter().zip(&self.reaches).enumerate() {
             let factor = Factor {
                 residual: residual.unsigned_abs(),
                 reach: reach as u64,
             };
-            if factor.is_none() {
-                return (true, i as u8 + 1);
-            }
-            if factor.exceeds(&greatest) {
-                greatest = factor;
-                deciding = i;
+            if factor.exceeds(&deciding.factor) {
+                let row = i as u8 + 1;
+                deciding = Deciding { row, factor };
+                if factor.is_none() {
+                    break;
+                }
             }
         }
-        (false, deciding as u8 + 1)
+        deciding
     }
+}
+
+/// The row that decides, counted from 1, and its factor, which is also the factor of the whole answer.
+#[derive(Clone, Copy)]
+pub struct Deciding {
+    pub row: u8,
+    pub factor: Factor,
 }
 
 impl Row {
@@ -81,18 +102,20 @@ impl Row {
 }
 
 /// A row's backward error, |residual| / reach: by this part of their tolerances its figures must change at least.
-struct Factor {
+#[derive(Clone, Copy)]
+pub struct Factor {
     residual: u64,
     reach: u64,
 }
 
 impl Factor {
-    fn is_none(&self) -> bool {
+    /// A residual that no change within the tolerances takes off.
+    pub fn is_none(&self) -> bool {
         self.reach == 0 && self.residual != 0
     }
 
-    /// `other` has a reach above zero. A factor of 0 / 0 counts as 0, and exceeds nothing.
-    fn exceeds(&self, other: &Factor) -> bool {
+    /// The `other` is not 0 / 0. Such a factor counts as 0, and exceeds nothing; none exceeds every factor, and does not exceed none.
+    pub fn exceeds(&self, other: &Factor) -> bool {
         u128::from(self.residual) * u128::from(other.reach)
             > u128::from(other.residual) * u128::from(self.reach)
     }

@@ -13,8 +13,8 @@ pub const fn length(n: usize) -> usize {
 }
 
 /// Writes the record to the front of `out`, which has room for it, and returns its length.
-pub fn write(n: usize, answer: &Answer, out: &mut [u8]) -> usize {
-    let judgement = &answer.judgement;
+pub fn write(n: usize, answer: &mut Answer, out: &mut [u8]) -> usize {
+    let judgement = &mut answer.judgement;
     let (head, rest) = out[..length(n)].split_at_mut(6);
     let (figures_head, rest) = rest.split_at_mut(3);
     let (figures, rest) = rest.split_at_mut(4 * n);
@@ -42,7 +42,8 @@ pub fn write(n: usize, answer: &Answer, out: &mut [u8]) -> usize {
         bytes[..8].copy_from_slice(&residual.to_be_bytes());
         bytes[8..].copy_from_slice(&reach.to_be_bytes());
     }
-    let (none, row) = judgement.deciding_row(n);
-    tail.copy_from_slice(&[FACTOR, 0, 2, u8::from(none), row, END, 0, 0]);
+    let deciding = judgement.deciding(n);
+    let none = u8::from(deciding.factor.is_none());
+    tail.copy_from_slice(&[FACTOR, 0, 2, none, deciding.row, END, 0, 0]);
     length(n)
 }

@@ -7,9 +7,8 @@ use mathlib.Core.Bool.{false}
 use mathlib.Core.List.{List}
 use mathlib.Core.Path.{_≡_}
 use Rattle.limits.specs.Limits.{mostTanks}
-use Rattle.judge.specs.Judgement.{measurementFrom}
 use Rattle.judge.specs.System.{System}
-use Rattle.solver.specs.Refinement.{Progress}
+use Rattle.solver.specs.Refinement.{Progress, nothingSaid}
 use Rattle.solver.specs.Solution.{Solution, solutionFrom, judgedTrial, refusedSolution, solution, SolutionIs}
 use Rattle.outcome.specs.CallResult.{CallResult, writeIfAccepted, checkRoom}
 use Rattle.outcome.specs.declared.Refusal.{Refusal}
@@ -62,7 +61,7 @@ noProgress =
       within = false;
       rounds = 0;
       trial = replicate mostTanks (pos 0);
-      measurement = measurementFrom 0 (replicate mostTanks (pos 0)) (replicate mostTanks 0);
+      judgement = nothingSaid (replicate mostTanks (pos 0)) (replicate mostTanks 0);
     }
 
 abbrev pub noAnswer : Refusal → Answer

@@ -1,12 +1,13 @@
 -- Definitions only.
 -- The third demand, in one piece, about the case's figures and the bytes that the call left.
-use Prim.Native.Nat.{ℕ, _<_}
+use Prim.Native.Nat.{ℕ, _<_, _≤_}
 use lib.IntN.{pos}
 use lib.ListN.{getD, take}
 use mathlib.Core.List.{List}
 use mathlib.Core.Path.{_≡_}
 use Rattle.judge.specs.Finding.{Justified}
 use Rattle.judge.specs.System.{System, Trial}
+use Rattle.solver.specs.Claims.{KeptTrial}
 use Rattle.solver.specs.Solution.{Solution}
 use Rattle.outcome.specs.CallResult.{callResult}
 use Rattle.outcome.specs.Outcome.{reportedOutcome}
@@ -29,11 +30,13 @@ pub record Finished (s : System) (D : ℕ) (kept : Solution) (at : ℕ) (bytes :
   pub justified : Justified s (recordedTrial (s .n) D at bytes) (recordedFinding (s .n) at bytes)
 
 -- "a case is finished when the call .. returns a count and no refusal, and its record is that many bytes, as the call left them at the
--- buffer's front": the case's one condition begins there, and its answer is the trial brought or that of the steps
+-- buffer's front": the case's one condition begins there, and its answer is the trial brought or that of the steps, which is the first trial that is
+-- met or the best of the rounds
 pub record Demand (input buffer : List ℕ) (m : ℕ) : Type 0 where
   pub case : Case
   pub read : decode input ≡ accepted case
   pub finished : Finished (systemOf case) (scaleOf (case .exponent)) (caseSolution case) 0 (take m buffer)
+  pub kept : 1 ≤ case .rounds → KeptTrial (systemOf case) (scaleOf (case .exponent)) (case .rounds) (caseSolution case)
 
 abbrev pub Demanded : List ℕ → Outcome → List ℕ → Type 0
 Demanded input outcome buffer = (m : ℕ) → reportedOutcome outcome ≡ reportedOutcome (Count m) → Demand input buffer m

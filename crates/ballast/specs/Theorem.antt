@@ -16,8 +16,8 @@ use Rattle.judge.specs.Judgement.{Judgement, judgement}
 use Rattle.judge.specs.Laws.{unmet-le, deciding-below}
 use Rattle.judge.specs.System.{System, Trial, row, trial, residual, reach}
 use Rattle.judge.specs.Theorem.{justified}
-use Rattle.solver.specs.Answers.{answer, rounds}
-use Rattle.solver.specs.Claims.{KeptAnswer}
+use Rattle.solver.specs.Answers.{answer, rounds, kept-trial}
+use Rattle.solver.specs.Claims.{KeptAnswer, KeptTrial}
 use Rattle.solver.specs.Sizes.{residual-le}
 use Rattle.solver.specs.Solution.{Solution}
 use Rattle.outcome.specs.CallResult.{checkRoom, callResult}
@@ -58,6 +58,15 @@ module _ (c : Case) (g : Good c) where
         figures = λ i. rw (getD-padded (pos 0) mostTanks (caseSolution c .trial) i) (solution-answer .figures i);
         judgement-is = λ e. solution-answer .judgement-is e ∙ ap (judgement (systemOf c)) (sym (trial-padded (c .n) (scaleOf (c .exponent)) (caseSolution c .trial)));
       }
+
+-- which trial is the answer of a condition that brings none
+kept-condition : (s : System) (D k : ℕ) (Y : List ℤ) → 1 ≤ k → conditionSolution s D k Y .status ≡ Accepted → KeptTrial s D k (conditionSolution s D k Y)
+kept-condition s D zero Y l = absurd (omega arith)
+kept-condition s D (suc k) Y l = kept-trial s D (suc k) l
+
+pub kept-case : (c : Case) → caseSolution c .status ≡ Accepted → 1 ≤ c .rounds → KeptTrial (systemOf c) (scaleOf (c .exponent)) (c .rounds) (caseSolution c)
+unfolding caseSolution
+kept-case c e l = kept-condition (systemOf c) (scaleOf (c .exponent)) (c .rounds) (c .Y) l e
 
 -- ---- what is read off the bytes of a condition
 
@@ -160,6 +169,7 @@ module _ (input out : List ℕ) (m : ℕ) (e : judgeResult input out .outcome �
             let k = from .figures in
             subst (λ b. Finished (systemOf k) (scaleOf (k .exponent)) (caseSolution k) 0 b) (sym (counted .front))
             (rw (from .decoded) (finished-case k fine (from .answered)));
+        kept = kept-case (from .figures) (from .answered);
       }
 
 -- so a call that answers and leaves what the definition says keeps its promise

@@ -54,8 +54,8 @@ module _ (f g : Fraction) where
   unfolding order
   order-greater h = ordered-gt (f .num * base g) (g .num * base f) h
 
-  pub greater : order f g ≡ Greater → g ≺ f
-  greater e = go (decLt (g .num * base f) (f .num * base g)) (decLt (f .num * base g) (g .num * base f))
+  pub greater-than : order f g ≡ Greater → g ≺ f
+  greater-than e = go (decLt (g .num * base f) (f .num * base g)) (decLt (f .num * base g) (g .num * base f))
     where
       go : Dec (g ≺ f) → Dec (f ≺ g) → g ≺ f
       go (yes h) d = h
@@ -126,6 +126,13 @@ module _ (f g h : Fraction) where
     where
       go : (h ≼ f) ⊎ (f ≺ h) → f ≺ h
       go (inl k) = absurd (omega (arith, ≼-trans h f g k p))
+      go (inr k) = k
+
+  pub ≺-≼-trans : f ≺ g → g ≼ h → f ≺ h
+  ≺-≼-trans p q = go (≼-total h f)
+    where
+      go : (h ≼ f) ⊎ (f ≺ h) → f ≺ h
+      go (inl k) = absurd (omega (arith, ≼-trans g h f q k))
       go (inr k) = k
 
 -- on proper fractions s / t and u / v the order is that of document 01: u / v is at least as large exactly if u × t is at least s × v

@@ -1,4 +1,7 @@
 pub mod Fraction
 pub mod Laws
+pub mod First
+pub mod FirstLaws
 pub mod Greatest
-pub mod GreatestLaws
+pub mod Least
+pub mod RankLaws

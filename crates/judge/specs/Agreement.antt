@@ -4,7 +4,8 @@ use lib.Dec.{eqb}
 use lib.IntN.{ℤ, pos, _-ℤ_, _*ℤ_}
 use mathlib.Core.Path.{_≡_, refl, ap, ap₂, _∙_}
 use Rattle.limits.specs.Limits.{mostTanks}
-use Rattle.fractions.specs.GreatestLaws.{first-greatest-cong}
+use Rattle.fractions.specs.FirstLaws.{first-cong}
+use Rattle.fractions.specs.Greatest.{greater}
 use Rattle.judge.specs.Finding.{Finding, finding, Agrees}
 use Rattle.judge.specs.Judgement.{rowMet, factor, noFactor, firstUnmet, deciding, judgement}
 use Rattle.judge.specs.Laws.{first-not-cong, deciding-below, deciding-is, at-residuals, at-reaches}
@@ -43,7 +44,7 @@ module _ (t : Trial) (Y : ℕ → ℤ) (same : (j : ℕ) → j < t .n → t .Y j
 
     same-deciding : deciding s t ≡ deciding s withFigures
     unfolding deciding
-    same-deciding = first-greatest-cong _ _ (s .n) (λ i l. ap₂ factor (same-residual (row s i)) (same-reach (row s i)))
+    same-deciding = first-cong greater _ _ (s .n) (λ i l. ap₂ factor (same-residual (row s i)) (same-reach (row s i)))
 
     pub agrees-with : (w : Finding) → Agrees s t w → Agrees s withFigures w
     agrees-with w a =

@@ -1,6 +1,6 @@
 -- Definitions only.
 -- The judgement of a trial: document 01's "Judgement", row by row in the system's own order.
-use Prim.Native.Nat.{ℕ, zero, suc}
+use Prim.Native.Nat.{ℕ, zero, suc, _-_}
 use lib.Dec.{leb, eqb}
 use lib.IntN.{ℤ, pos, natAbs}
 use lib.ListN.{getD}
@@ -94,6 +94,16 @@ concluded n p =
 unfoldable pub judgement : System → Trial → Judgement
 unfolding concluded decidingPlace
 judgement s t = concluded (s .n) (measurement s t)
+
+-- residual and reach of the row that decides, and its factor, by which a trial is held against another
+abbrev pub decidingResidual : Judgement → ℤ
+decidingResidual j = getD (j .residuals) (j .decides - 1) (pos 0)
+
+abbrev pub decidingReach : Judgement → ℕ
+decidingReach j = getD (j .reaches) (j .decides - 1) 0
+
+abbrev pub decidingFactor : Judgement → Fraction
+decidingFactor j = factor (decidingResidual j) (decidingReach j)
 
 -- the row that decides, by the rows themselves: the same for at most eight rows (`deciding-is` in Laws)
 unfoldable pub deciding : System → Trial → ℕ

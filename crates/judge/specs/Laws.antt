@@ -11,7 +11,8 @@ use native.Mathlib.Numerals.{add-one}
 use native.Mathlib.Omega.{arith}
 use Rattle.limits.specs.Limits.{mostTanks}
 use Rattle.integers.specs.TableLaws.{getD-filled}
-use Rattle.fractions.specs.GreatestLaws.{first-greatest-cong, first-greatest-below}
+use Rattle.fractions.specs.FirstLaws.{first-cong, first-below}
+use Rattle.fractions.specs.Greatest.{greater}
 use Rattle.judge.specs.Judgement.{measurementFrom, judgementFrom, rowMet, factor, noFactor, orElse, firstNot, firstUnmet, deciding, residualVector, reachVector, judgement, measurement, decidingPlace, concluded}
 use Rattle.judge.specs.System.{System, Trial, row, residual, reach}
 
@@ -89,7 +90,7 @@ unmet-le s t = go (firstUnmet s t) refl
 
 pub deciding-below : (s : System) (t : Trial) → 0 < s .n → deciding s t < s .n
 unfolding deciding
-deciding-below s t h = first-greatest-below _ (s .n) (s .n) (omega arith) h
+deciding-below s t h = first-below greater _ (s .n) (s .n) (omega arith) h
 
 -- ---- the whole, from its parts
 
@@ -113,7 +114,7 @@ module _ (s : System) (t : Trial) (h : s .n ≤ mostTanks) where
   -- the row that decides in the judgement is the one that the rows themselves say
   pub deciding-is : decidingPlace (s .n) (measurement s t) ≡ deciding s t
   unfolding decidingPlace deciding
-  deciding-is = first-greatest-cong _ _ (s .n) (λ i l. ap₂ factor (at-residuals i l) (at-reaches i l))
+  deciding-is = first-cong greater _ _ (s .n) (λ i l. ap₂ factor (at-residuals i l) (at-reaches i l))
 
 -- the judgement is concluded from the measurement
 pub judgement-concluded : (s : System) (t : Trial) → concluded (s .n) (measurement s t) ≡ judgement s t
@@ -127,7 +128,7 @@ pub conclusion : (n u : ℕ) (R : List ℤ) (T : List ℕ) (at : ℕ) (none : Bo
 unfolding concluded
 conclusion n u R T at none ea en = rw (en, ea, add-one (decidingPlace n (measurementFrom u R T)))
 
--- a trial is met exactly if no row of its measurement is unmet
-pub met-is : (s : System) (t : Trial) → judgement s t .met ≡ eqb (measurement s t .unmet) 0
+-- it holds the residuals of the rows
+pub judgement-residuals : (s : System) (t : Trial) → judgement s t .residuals ≡ residualVector s t
 unfolding judgement
-met-is s t = refl
+judgement-residuals s t = refl

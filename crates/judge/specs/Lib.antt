@@ -5,6 +5,7 @@ pub mod Judgement
 pub mod Magnitudes
 pub mod RowSumLaws
 pub mod Laws
+pub mod Deciding
 pub mod ZeroTrial
 pub mod Sizes
 pub mod OettliPrager

@@ -1,38 +1,22 @@
 -- Every finding that agrees with the judgement is justified, for a trial brought and a trial worked out alike. Assumes nothing.
 use Prim.Native.Nat.{ℕ, zero, suc, _*_, _-_, _<_}
-use borrow.Author.Tests.{leb-true, leb-false, eqb-true, eqb-false, ne-eqb}
-use lib.Dec.{eqb}
+use borrow.Author.Tests.{leb-true, leb-false, eqb-true, eqb-false}
 use lib.IntN.{ℤ, natAbs}
-use mathlib.Core.Bool.{Bool, true, false, not, _&&_}
+use mathlib.Core.Bool.{Bool, true, false}
 use mathlib.Core.Path.{_≡_, refl, sym, ap, _∙_}
 use native.Mathlib.Nat.{mul-le-mul-right}
 use native.Mathlib.Omega.{arith}
 use Rattle.fractions.specs.Fraction.{orderedDenominator}
-use Rattle.fractions.specs.Greatest.{First}
-use Rattle.fractions.specs.GreatestLaws.{first-greatest-is}
+use Rattle.fractions.specs.Greatest.{FirstGreatest}
+use Rattle.fractions.specs.RankLaws.{first-greatest-is}
 use Rattle.fractions.specs.Laws.{cross-from-base, cross-to-base}
+use Rattle.judge.specs.Deciding.{proper, improper}
 use Rattle.judge.specs.Finding.{Finding, factorNumerator, AllPossible, AllUnder, FirstImpossible, Least, Yields, Justified, Agrees}
 use Rattle.judge.specs.Judgement.{rowMet, factor, noFactor, firstUnmet, deciding}
 use Rattle.judge.specs.Laws.{Fails, first-not-zero, first-not-suc}
 use Rattle.judge.specs.OettliPrager.{oettli-prager, within-tolerances, yielded-keep}
 use Rattle.judge.specs.Perturbation.{Possible}
 use Rattle.judge.specs.System.{System, Trial, row, residual, reach}
-
--- a fraction with a factor is proper; one without has a numerator over 0
-proper : (a b : ℕ) → eqb b 0 && not (eqb a 0) ≡ false → 0 < orderedDenominator a b
-proper zero zero e = omega arith
-proper zero (suc b) e = omega arith
-proper (suc a) zero e =
-    let d = rw (ne-eqb (suc a) 0 (λ p. omega arith)) at e in
-    let z : _≡_ {A = ℕ} 0 1 = cc in absurd (omega arith)
-proper (suc a) (suc b) e = omega arith
-
-improper : (a b : ℕ) → eqb b 0 && not (eqb a 0) ≡ true → (0 < a) × (b ≡ 0)
-improper zero zero e = let z : _≡_ {A = ℕ} 0 1 = cc in absurd (omega arith)
-improper a (suc b) e =
-    let d = rw (ne-eqb (suc b) 0 (λ p. omega arith)) at e in
-    let z : _≡_ {A = ℕ} 0 1 = cc in absurd (omega arith)
-improper (suc a) zero e = (omega arith, refl)
 
 -- a Bool that cannot be false
 not-false : (b : Bool) → ¬ (b ≡ false) → b ≡ true
@@ -97,7 +81,7 @@ module _ (s : System) (t : Trial) where
   d = deciding s t
 
   module _ (h : 0 < s .n) where
-    greatest : First (λ i. factor (R i) (T i)) (s .n) (deciding s t)
+    greatest : FirstGreatest (λ i. factor (R i) (T i)) (s .n) (deciding s t)
     unfolding deciding
     greatest = first-greatest-is (λ i. factor (R i) (T i)) (s .n) h
 
@@ -108,7 +92,7 @@ module _ (s : System) (t : Trial) where
           proper = v;
           attained = λ i l.
               oettli-prager (row s i) t (natAbs (R d)) (orderedDenominator (natAbs (R d)) (T d)) v .1
-              (cross-from-base (natAbs (R i)) (T i) (natAbs (R d)) (orderedDenominator (natAbs (R d)) (T d)) (greatest .greatest i l));
+              (cross-from-base (natAbs (R i)) (T i) (natAbs (R d)) (orderedDenominator (natAbs (R d)) (T d)) (greatest .none-better i l));
           least = λ u′ v′ v′-pos all.
               cross-to-base (natAbs (R d)) (T d) u′ v′ (oettli-prager (row s d) t u′ v′ v′-pos .0 (all d (greatest .place)));
         }

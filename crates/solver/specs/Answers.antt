@@ -1,18 +1,16 @@
--- What holds of every solution: its trial is within its limits and an answer is judged, its rounds are those that were made, and refusal 8 has its
--- condition. Assumes nothing.
-use Prim.Native.Nat.{ℕ, zero, suc, _<_, _≤_}
-use borrow.Author.Tests.{eqb-true, eq-eqb}
-use lib.Dec.{eqb}
-use lib.IntN.{ℤ, pos}
-use lib.ListN.{length, replicate}
-use mathlib.Core.Bool.{Bool, true, false, false≢true, cond}
+-- What holds of every solution: its trial is within its limits and an answer is judged, its rounds are those that were made, which trial is kept, and
+-- refusals 8 and 9 have their conditions. Assumes nothing.
+use Prim.Native.Nat.{ℕ, suc, _<_, _≤_}
+use lib.IntN.{ℤ}
+use lib.ListN.{length}
+use mathlib.Core.Bool.{false≢true}
 use mathlib.Core.List.{List}
 use mathlib.Core.Path.{_≡_, refl, sym, ap, _∙_}
 use native.Mathlib.Omega.{arith}
 use Rattle.limits.specs.Limits.{mostTanks}
 use Rattle.integers.specs.TableLaws.{zeros-within}
-use Rattle.judge.specs.Judgement.{Measurement, Judgement, measurement, concluded}
-use Rattle.judge.specs.Laws.{judgement-concluded, met-is}
+use Rattle.integers.specs.Tables.{Within}
+use Rattle.judge.specs.Deciding.{lesser-has-factor}
 use Rattle.judge.specs.System.{System, trial}
 use Rattle.elimination.specs.Claims.{ZeroColumn}
 use Rattle.elimination.specs.Outcome.{outcome}
@@ -23,100 +21,33 @@ use Rattle.elimination.specs.declared.Elimination.the-variants.{Complete, ZeroP
 use Rattle.outcome.specs.Outcome.{statusNumber}
 use Rattle.outcome.specs.declared.Refusal.the-variants.{ZeroPivot, OutsideRange}
 use Rattle.outcome.specs.declared.Status.the-variants.{Accepted, Refused}
-use Rattle.solver.specs.Claims.{KeptAnswer, Rounds, Advanced, Measured, ZeroPivotFound}
-use Rattle.solver.specs.Laws.{Formed, unchanged, round-cases}
+use Rattle.solver.specs.Claims.{KeptAnswer, Rounds, UnmetBefore, roundTrial, BestRound, KeptTrial, ZeroPivotFound, OutsideRangeFound}
+use Rattle.solver.specs.Endings.{Solutions, solutions}
+use Rattle.solver.specs.Laws.{trial-formed}
 use Rattle.solver.specs.Outcomes.{solution-refused}
-use Rattle.solver.specs.Refinement.{Progress, start, measuredProgress, refusedProgress, ended, refined}
-use Rattle.solver.specs.Solution.{Solution, judgedTrial, acceptedSolution, refusedSolution, byElimination, solved, solution}
-
--- ---- rounds one after another
-
--- m rounds from p to q
-record Reached (s : System) (D : ℕ) (p : Progress) (m : ℕ) (q : Progress) : Type 0 where
-  formed : Formed (p .trial) (q .trial)
-  measured : (m ≡ 0 → Measured s D p) → Measured s D q
-  advanced : Advanced p m q
-
-module _ (w : List (List ℤ)) (o : List ℕ) (s : System) (D : ℕ) where
-  refused-reached : (p : Progress) (m : ℕ) (Y : List ℤ) → Formed (p .trial) Y → Reached s D p (suc m) (refusedProgress p Y)
-  refused-reached p m Y f =
-      record {
-        formed = f;
-        measured = λ _ e. absurd (false≢true e);
-        advanced = record { more = omega arith; few = omega arith; some = λ e l. absurd (false≢true e); early = λ e l. absurd (false≢true e) };
-      }
-
-  -- the next trial, and what follows it unless it is met
-  next-reached : (p : Progress) (m : ℕ) (r : Progress) → Formed (p .trial) (r .trial) → Measured s D r → r .rounds ≡ suc (p .rounds) → Reached s D r m (refined w o s D m r)
-      → (t : Bool) → eqb (r .measurement .unmet) 0 ≡ t → Reached s D p (suc m) (cond t r (refined w o s D m r))
-  next-reached p m r f j n h true e =
-      record {
-        formed = f;
-        measured = λ _. j;
-        advanced = record { more = omega arith; few = omega arith; some = λ _ l. omega arith; early = λ _ l. eqb-true (r .measurement .unmet) 0 e };
-      }
-  next-reached p m r f j n h false e =
-      let a = h .advanced in
-      record {
-        formed = record { figures = λ k. h .formed .figures (f .figures k); places = h .formed .places ∙ f .places };
-        measured = λ _. h .measured (λ _. j);
-        advanced = record { more = omega arith; few = omega arith; some = λ _ l. omega arith; early = λ k l. a .early k (omega arith) };
-      }
-
-  reached : (m : ℕ) (p : Progress) → Reached s D p m (refined w o s D m p)
-  unfolding refined
-  reached zero p =
-      record {
-        formed = unchanged (p .trial);
-        measured = λ h. h refl;
-        advanced = record { more = omega arith; few = omega arith; some = λ _ l. absurd (omega arith); early = λ _ l. absurd (omega arith) };
-      }
-  reached (suc m) p =
-      round-cases w o s D (λ r. Reached s D p (suc m) (cond (ended r) r (refined w o s D m r))) p
-      (λ Y f.
-      next-reached p m (measuredProgress s D (suc (p .rounds)) Y) f (λ _. refl) refl (reached m (measuredProgress s D (suc (p .rounds)) Y)) (eqb (measuredProgress s D (suc (p .rounds)) Y .measurement .unmet) 0) refl)
-      (refused-reached p m)
-
--- from the start, with some round allowed, a progress within its limits comes from a round
-pub some-round : (w : List (List ℤ)) (o : List ℕ) (s : System) (D K : ℕ) (p : Progress) → p ≡ refined w o s D K (start s D) → 0 < K → p .within ≡ true → 0 < p .rounds
-some-round w o s D K p e l = rw e (λ t. reached w o s D K (start s D) .advanced .some t l)
-
--- ---- every solution
-
--- what is concluded of a trial beside its own measurement is the trial's judgement
-accepted-judged : (s : System) (D : ℕ) (p : Progress) → p .measurement ≡ measurement s (trial (s .n) D (p .trial)) → acceptedSolution (s .n) p ≡ judgedTrial s D (p .rounds) (p .trial)
-accepted-judged s D p e =
-    ap (λ (j : Judgement). record { status = Accepted; rounds = p .rounds; trial = p .trial; judgement = j })
-    (ap (concluded (s .n)) e ∙ judgement-concluded s (trial (s .n) D (p .trial)))
-
--- P in each way in which at most K rounds end: none is allowed, the last trial is an answer, or it is refused
-record Endings (s : System) (D K : ℕ) (P : Solution → Type 0) : Type 0 where
-  no-round : K ≡ 0 → P (judgedTrial s D 0 (replicate mostTanks (pos 0)))
-  accepted : (p : Progress) → 0 < K → p .within ≡ true → Reached s D (start s D) K p → P (judgedTrial s D (p .rounds) (p .trial))
-  refused : (p : Progress) → Reached s D (start s D) K p → P (refusedSolution OutsideRange p)
-
-solved-cases : (w : List (List ℤ)) (o : List ℕ) (s : System) (D K : ℕ) (P : Solution → Type 0) → Endings s D K P → P (solved w o s D K)
-solved-cases w o s D zero P h = h .no-round refl
-solved-cases w o s D (suc k) P h = go (refined w o s D (suc k) (start s D)) (reached w o s D (suc k) (start s D))
-  where
-    go : (p : Progress) → Reached s D (start s D) (suc k) p → P (cond (p .within) (acceptedSolution (s .n) p) (refusedSolution OutsideRange p))
-    go p r = pick (p .within) refl
-      where
-        pick : (t : Bool) → p .within ≡ t → P (cond t (acceptedSolution (s .n) p) (refusedSolution OutsideRange p))
-        pick true e = rw (accepted-judged s D p (r .measured (λ z. absurd (omega arith)) e)) (h .accepted p (omega arith) e r)
-        pick false e = h .refused p r
+use Rattle.solver.specs.Ranking.{bestRound}
+use Rattle.solver.specs.RankingLaws.{best-some, best-few, best-least, best-earlier}
+use Rattle.solver.specs.Refinement.{figureLimit, start}
+use Rattle.solver.specs.Solution.{Solution, refusedSolution, byElimination, solved, solution}
 
 module _ (s : System) (D K : ℕ) where
-  -- and by the elimination's outcome
-  cases : (P : Solution → Type 0) → Endings s D K P
+  -- the working matrix and the order of the rows
+  abbrev w : List (List ℤ)
+  w = eliminated (s .n) (s .rows .A) .working
+
+  abbrev o : List ℕ
+  o = eliminated (s .n) (s .rows .A) .order
+
+  -- P in each way in which the rounds end, and by the elimination's outcome
+  cases : (P : Solution → Type 0) → Solutions w o s D K P
       → ((k : ℕ) → outcome (s .n) (eliminated (s .n) (s .rows .A) .steps) ≡ Stopped k → P (refusedSolution ZeroPivot (start s D)))
       → P (solution s D K)
   unfolding solution
   cases P h d = go (outcome (s .n) (eliminated (s .n) (s .rows .A) .steps)) refl
     where
       go : (e : Elimination) → outcome (s .n) (eliminated (s .n) (s .rows .A) .steps) ≡ e
-          → P (byElimination e (solved (eliminated (s .n) (s .rows .A) .working) (eliminated (s .n) (s .rows .A) .order) s D K) (refusedSolution ZeroPivot (start s D)))
-      go Complete q = solved-cases (eliminated (s .n) (s .rows .A) .working) (eliminated (s .n) (s .rows .A) .order) s D K P h
+          → P (byElimination e (solved w o s D K) (refusedSolution ZeroPivot (start s D)))
+      go Complete q = solutions w o s D K P h
       go (Stopped k) q = d k q
 
   -- the kept trial, and its judgement where it is an answer
@@ -125,37 +56,78 @@ module _ (s : System) (D K : ℕ) where
       cases (KeptAnswer s D)
       (record {
         no-round = λ _. record { figures = zeros-within mostTanks; judgement-is = λ _. refl };
-        accepted = λ p _ _ h. record { figures = h .formed .figures (zeros-within mostTanks); judgement-is = λ _. refl };
-        refused = λ p h. record { figures = h .formed .figures (zeros-within mostTanks); judgement-is = λ e. absurd (omega (arith, ap statusNumber e)) };
+        met = λ k f. record { figures = figures k; judgement-is = λ _. refl };
+        unmet = λ l f. record { figures = figures (bestRound w o s D K); judgement-is = λ _. refl };
+        outside = λ k j f. record { figures = figures (suc k); judgement-is = λ e. absurd (omega (arith, ap statusNumber e)) };
       })
       (λ k q. record { figures = zeros-within mostTanks; judgement-is = λ e. absurd (omega (arith, ap statusNumber e)) })
+    where
+      figures : (k : ℕ) → Within figureLimit (roundTrial s D k)
+      figures k = trial-formed w o s D k .figures (zeros-within mostTanks)
 
   -- it has a place for each tank that a case may have
   pub trial-places : length (solution s D K .trial) ≡ mostTanks
   trial-places =
       cases (λ (r : Solution). length (r .trial) ≡ mostTanks)
-      (record { no-round = λ _. refl; accepted = λ p _ _ h. h .formed .places; refused = λ p h. h .formed .places })
+      (record {
+        no-round = λ _. refl;
+        met = λ k f. trial-formed w o s D k .places;
+        unmet = λ l f. trial-formed w o s D (bestRound w o s D K) .places;
+        outside = λ k j f. trial-formed w o s D (suc k) .places;
+      })
       (λ k q. refl)
-
-  -- a trial with no unmet row is judged as met
-  met : (p : Progress) → p .measurement ≡ measurement s (trial (s .n) D (p .trial)) → p .measurement .unmet ≡ 0 → judgedTrial s D (p .rounds) (p .trial) .judgement .met ≡ true
-  met p m e =
-      met-is s (trial (s .n) D (p .trial))
-      ∙ eq-eqb _ _ (sym (ap (λ (x : Measurement). x .unmet) m) ∙ e)
 
   pub rounds : 1 ≤ K → solution s D K .status ≡ Accepted → Rounds K (solution s D K)
   rounds l =
       cases (λ r. r .status ≡ Accepted → Rounds K r)
       (record {
         no-round = λ z. absurd (omega arith);
-        accepted = λ p _ t h e.
-            let a = h .advanced in
-            record { some = a .some t (omega arith); few = omega arith; early = λ k. met p (h .measured (λ z. absurd (omega arith)) t) (a .early t (omega arith)) };
-        refused = λ p h e. absurd (omega (arith, ap statusNumber e));
+        met = λ k f e. record { some = f .some; few = f .few; early = λ _. f .met };
+        unmet = λ _ f e. record { some = l; few = omega arith; early = λ m. absurd (omega arith) };
+        outside = λ k j f e. absurd (omega (arith, ap statusNumber e));
       })
       (λ k q e. absurd (omega (arith, ap statusNumber e)))
 
-  -- refusal 8 exactly if at some step every candidate for the pivot is zero
+  -- ---- which trial is kept
+
+  best-is : 1 ≤ K → UnmetBefore w o s D (suc K) → BestRound s D K (bestRound w o s D K)
+  best-is l f =
+      record {
+        unmet = λ k a b. f k a (omega arith) .unmet;
+        least = best-least w o s D K l;
+        earlier = best-earlier w o s D K l;
+        factor = λ k a b. lesser-has-factor s (trial (s .n) D (roundTrial s D (bestRound w o s D K))) (trial (s .n) D (roundTrial s D k)) (best-least w o s D K l k a b);
+      }
+
+  pub kept-trial : 1 ≤ K → solution s D K .status ≡ Accepted → KeptTrial s D K (solution s D K)
+  kept-trial l =
+      cases (λ r. r .status ≡ Accepted → KeptTrial s D K r)
+      (record {
+        no-round = λ z. absurd (omega arith);
+        met = λ k f _. record {
+          round = k;
+          some = f .some;
+          few = f .few;
+          trial-is = refl;
+          judgement-is = refl;
+          met = λ _. (refl, λ i a b. f .before i a b .unmet);
+          unmet = λ e. absurd (false≢true (sym e ∙ f .met));
+        };
+        unmet = λ _ f _. record {
+          round = bestRound w o s D K;
+          some = best-some w o s D K l;
+          few = best-few w o s D K l;
+          trial-is = refl;
+          judgement-is = refl;
+          met = λ e. absurd (false≢true (sym (best-is l f .unmet (bestRound w o s D K) (best-some w o s D K l) (best-few w o s D K l)) ∙ e));
+          unmet = λ _. (refl, best-is l f);
+        };
+        outside = λ k j f e. absurd (omega (arith, ap statusNumber e));
+      })
+      (λ k q e. absurd (omega (arith, ap statusNumber e)))
+
+  -- ---- refusal 8 exactly if at some step every candidate for the pivot is zero
+
   pub zero-pivot-refused : (k : ℕ) → ZeroColumn (s .n) (s .rows .A) k → solution s D K .status ≡ Refused ZeroPivot
   zero-pivot-refused k c =
       ap (λ (r : Solution). r .status) (sym (solution-refused s D K k (start s D) refl (column-zero-pivot (s .n) (s .rows .A) k c)))
@@ -165,7 +137,21 @@ module _ (s : System) (D K : ℕ) where
       cases (λ r. r .status ≡ Refused ZeroPivot → ZeroPivotFound s)
       (record {
         no-round = λ _ e. absurd (omega (arith, ap statusNumber e));
-        accepted = λ p _ _ h e. absurd (omega (arith, ap statusNumber e));
-        refused = λ p h e. absurd (omega (arith, ap statusNumber e));
+        met = λ k f e. absurd (omega (arith, ap statusNumber e));
+        unmet = λ l f e. absurd (omega (arith, ap statusNumber e));
+        outside = λ k j f e. absurd (omega (arith, ap statusNumber e));
       })
       (λ k q e. record { step = k; column = zero-pivot-column (s .n) (s .rows .A) k q })
+
+  -- ---- refusal 9 only where some round leaves its limits and none before it is met
+
+  pub refused-outside-range : solution s D K .status ≡ Refused OutsideRange → OutsideRangeFound s D K
+  refused-outside-range =
+      cases (λ r. r .status ≡ Refused OutsideRange → OutsideRangeFound s D K)
+      (record {
+        no-round = λ _ e. absurd (omega (arith, ap statusNumber e));
+        met = λ k f e. absurd (omega (arith, ap statusNumber e));
+        unmet = λ l f e. absurd (omega (arith, ap statusNumber e));
+        outside = λ k j f e. record { round = suc k; first = f };
+      })
+      (λ k q e. absurd (omega (arith, ap statusNumber e)))

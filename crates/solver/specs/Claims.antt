@@ -1,14 +1,19 @@
 -- Definitions only.
--- What is claimed of every solution, in the words of its laws.
-use Prim.Native.Nat.{ℕ, _+_, _<_, _≤_}
-use mathlib.Core.Bool.{true}
+-- What is claimed of every solution, in the words of its laws. Rounds are counted from 1.
+use Prim.Native.Nat.{ℕ, suc, _<_, _≤_}
+use lib.IntN.{ℤ}
+use mathlib.Core.Bool.{true, false}
+use mathlib.Core.List.{List}
 use mathlib.Core.Path.{_≡_}
 use Rattle.integers.specs.Tables.{Within}
-use Rattle.judge.specs.Judgement.{judgement, measurement}
+use Rattle.fractions.specs.Fraction.{Fraction, _≼_, _≺_}
+use Rattle.judge.specs.Judgement.{Judgement, judgement}
 use Rattle.judge.specs.System.{System, trial}
 use Rattle.elimination.specs.Claims.{ZeroColumn}
+use Rattle.elimination.specs.Steps.{eliminated}
 use Rattle.outcome.specs.declared.Status.the-variants.{Accepted}
-use Rattle.solver.specs.Refinement.{figureLimit, Progress}
+use Rattle.solver.specs.Ranking.{factorOfRound}
+use Rattle.solver.specs.Refinement.{figureLimit, trialOfRound, withinOfRound, judgementOfRound}
 use Rattle.solver.specs.Solution.{Solution}
 
 -- the kept trial is within ±10,000,000, and the judgement beside an answer is its own: the same as for a trial that a case brings
@@ -22,18 +27,67 @@ pub record Rounds (K : ℕ) (r : Solution) : Type 0 where
   pub few : r .rounds ≤ K
   pub early : r .rounds < K → r .judgement .met ≡ true
 
--- the same of m rounds from p to q; the last two where the last round stayed within its limits
-pub record Advanced (p : Progress) (m : ℕ) (q : Progress) : Type 0 where
-  pub more : p .rounds ≤ q .rounds
-  pub few : q .rounds ≤ p .rounds + m
-  pub some : q .within ≡ true → 0 < m → p .rounds < q .rounds
-  pub early : q .within ≡ true → q .rounds < p .rounds + m → q .measurement .unmet ≡ 0
+-- ---- over one elimination: w its working matrix, o the order of its rows
 
--- that a trial within its limits stands beside its own measurement; the start does not
-abbrev pub Measured : System → ℕ → Progress → Type 0
-Measured s D p = p .within ≡ true → p .measurement ≡ measurement s (trial (s .n) D (p .trial))
+-- round k stays within its limits, and its trial is not met
+pub record RoundUnmet (w : List (List ℤ)) (o : List ℕ) (s : System) (D k : ℕ) : Type 0 where
+  pub within : withinOfRound w o s D k ≡ true
+  pub unmet : judgementOfRound w o s D k .met ≡ false
+
+-- every round before round k is so
+abbrev pub UnmetBefore : List (List ℤ) → List ℕ → System → ℕ → ℕ → Type 0
+UnmetBefore w o s D k = (i : ℕ) → 1 ≤ i → i < k → RoundUnmet w o s D i
+
+-- round k, one of K, is the first that is met; and round k is the first that leaves its limits, with none met before it
+pub record FirstMet (w : List (List ℤ)) (o : List ℕ) (s : System) (D K k : ℕ) : Type 0 where
+  pub some : 1 ≤ k
+  pub few : k ≤ K
+  pub before : UnmetBefore w o s D k
+  pub within : withinOfRound w o s D k ≡ true
+  pub met : judgementOfRound w o s D k .met ≡ true
+
+pub record FirstOutside (w : List (List ℤ)) (o : List ℕ) (s : System) (D K k : ℕ) : Type 0 where
+  pub some : 1 ≤ k
+  pub few : k ≤ K
+  pub before : UnmetBefore w o s D k
+  pub outside : withinOfRound w o s D k ≡ false
+
+-- ---- the trials of a system's rounds, over its own elimination
+
+abbrev pub roundTrial : System → ℕ → ℕ → List ℤ
+roundTrial s D k = trialOfRound (eliminated (s .n) (s .rows .A) .working) (eliminated (s .n) (s .rows .A) .order) s D k
+
+abbrev pub roundJudgement : System → ℕ → ℕ → Judgement
+roundJudgement s D k = judgementOfRound (eliminated (s .n) (s .rows .A) .working) (eliminated (s .n) (s .rows .A) .order) s D k
+
+abbrev pub roundFactor : System → ℕ → ℕ → Fraction
+roundFactor s D k = factorOfRound (eliminated (s .n) (s .rows .A) .working) (eliminated (s .n) (s .rows .A) .order) s D k
+
+-- of K rounds none is met, and round b has the best trial: no round's trial has a smaller factor, each earlier round's has a greater one or, where the
+-- best one has one, none; and it has one if any has. A trial without a factor is a fraction over 0: above every other, and equal to its like
+pub record BestRound (s : System) (D K b : ℕ) : Type 0 where
+  pub unmet : (k : ℕ) → 1 ≤ k → k ≤ K → roundJudgement s D k .met ≡ false
+  pub least : (k : ℕ) → 1 ≤ k → k ≤ K → roundFactor s D b ≼ roundFactor s D k
+  pub earlier : (k : ℕ) → 1 ≤ k → k < b → roundFactor s D b ≺ roundFactor s D k
+  pub factor : (k : ℕ) → 1 ≤ k → k ≤ K → roundJudgement s D k .none ≡ false → roundJudgement s D b .none ≡ false
+
+-- which trial an answer of K rounds is: that of a round from 1 to K, with what is said of it. Where it is met, its round is the first so and is the
+-- number of rounds used; where it is not, K rounds are used and its round is the best
+pub record KeptTrial (s : System) (D K : ℕ) (r : Solution) : Type 0 where
+  pub round : ℕ
+  pub some : 1 ≤ round
+  pub few : round ≤ K
+  pub trial-is : r .trial ≡ roundTrial s D round
+  pub judgement-is : r .judgement ≡ roundJudgement s D round
+  pub met : r .judgement .met ≡ true → (r .rounds ≡ round) × ((k : ℕ) → 1 ≤ k → k < round → roundJudgement s D k .met ≡ false)
+  pub unmet : r .judgement .met ≡ false → (r .rounds ≡ K) × BestRound s D K round
 
 -- the step, counted from 0, at which every candidate for the pivot is zero
 pub record ZeroPivotFound (s : System) : Type 0 where
   pub step : ℕ
   pub column : ZeroColumn (s .n) (s .rows .A) step
+
+-- the round that leaves its limits, with none met before it
+pub record OutsideRangeFound (s : System) (D K : ℕ) : Type 0 where
+  pub round : ℕ
+  pub first : FirstOutside (eliminated (s .n) (s .rows .A) .working) (eliminated (s .n) (s .rows .A) .order) s D K round

@@ -1,21 +1,23 @@
 -- What the definitions of refinement do at a loop's turn, and what holds of the trials that they give. Assumes nothing.
 use Prim.Native.Nat.{ℕ, zero, suc, _+_, _-_, _<_, _≤_}
 use borrow.Author.Tests.{le-leb, lt-leb, leb-true}
-use lib.Dec.{leb, eqb}
-use lib.IntN.{ℤ, natAbs}
-use lib.ListN.{length, set, length-set}
-use mathlib.Core.Bool.{Bool, true, false, true≢false, cond, _&&_}
+use lib.Dec.{leb}
+use lib.IntN.{ℤ, pos, natAbs}
+use lib.ListN.{length, set, replicate, length-set}
+use mathlib.Core.Bool.{Bool, true, false, true≢false, cond}
 use mathlib.Core.List.{List}
 use mathlib.Core.Path.{_≡_, refl, sym, ap, _∙_}
 use native.Mathlib.Numerals.{add-one}
 use native.Mathlib.Omega.{arith}
+use Rattle.limits.specs.Limits.{mostTanks}
 use Rattle.integers.specs.TableLaws.{within-set}
 use Rattle.integers.specs.Tables.{Within}
-use Rattle.judge.specs.Judgement.{Measurement, measurement}
+use Rattle.judge.specs.Judgement.{Judgement, judgement}
+use Rattle.judge.specs.Laws.{judgement-residuals}
 use Rattle.judge.specs.System.{System, trial}
 use Rattle.substitution.specs.Passes.{Corrections}
 use Rattle.solver.specs.Limits.{Resumable}
-use Rattle.solver.specs.Refinement.{figureLimit, correctedFigure, Update, update, correctedFrom, corrected, orderedResiduals, substituted, updated, Progress, start, measuredProgress, refusedProgress, afterUpdate, round, endedBy, ended, refined}
+use Rattle.solver.specs.Refinement.{figureLimit, correctedFigure, Update, update, correctedFrom, corrected, orderedResiduals, substituted, updated, Progress, start, judgedProgress, refusedProgress, afterUpdate, round, ended, refined, trialOfRound}
 
 -- ---- the update, at a loop's turn: the rest of the work from here is all of it
 
@@ -64,57 +66,55 @@ formed n Y d = go (d .within)
     go true = formed-from (d .values) 0 n Y
     go false = unchanged Y
 
--- ---- the end of the work
-
--- as code tests it, where the last round stayed within its limits
-pub ended-within : (k u : ℕ) → leb 1 k && eqb u 0 ≡ endedBy true k u
-ended-within zero u = refl
-ended-within (suc k) u = ap (λ (t : Bool). t && eqb u 0) (le-leb 1 (suc k) (omega arith))
+-- ---- a round, by cases
 
 -- the start is no verdict: it ends nothing
 pub start-goes-on : (s : System) (D : ℕ) → ended (start s D) ≡ false
 start-goes-on s D = refl
 
--- ---- a round, by cases
-
 module _ (w : List (List ℤ)) (o : List ℕ) (s : System) (D : ℕ) where
-  pub round-cases : (P : Progress → Type 0) (p : Progress) → ((Y : List ℤ) → Formed (p .trial) Y → P (measuredProgress s D (suc (p .rounds)) Y))
-      → ((Y : List ℤ) → Formed (p .trial) Y → P (refusedProgress p Y)) → P (round w o s D p)
-  unfolding round updated
-  round-cases P p a b = go (updated w o s D (p .trial)) (formed (s .n) (p .trial) (substituted w (orderedResiduals o s (trial (s .n) D (p .trial))) (s .n)))
-    where
-      go : (u : Update) → Formed (p .trial) (u .trial) → P (afterUpdate s D p u)
-      go u k = pick (u .within)
-        where
-          pick : (t : Bool) → P (cond t (measuredProgress s D (suc (p .rounds)) (u .trial)) (refusedProgress p (u .trial)))
-          pick true = a (u .trial) k
-          pick false = b (u .trial) k
-
-  -- as code finds it: the update u, and the measurement m of its trial
+  -- as code finds it: the update u, and what is said of its trial
   module _ (p : Progress) (u : Update) (e : u ≡ updated w o s D (p .trial)) where
-    pub round-on : (m : Measurement) → u .within ≡ true → m ≡ measurement s (trial (s .n) D (u .trial))
-        → record { within = true; rounds = p .rounds + 1; trial = u .trial; measurement = m } ≡ round w o s D p
+    pub round-on : (j : Judgement) → u .within ≡ true → j ≡ judgement s (trial (s .n) D (u .trial))
+        → record { within = true; rounds = p .rounds + 1; trial = u .trial; judgement = j } ≡ round w o s D p
     unfolding round
-    round-on m t q = rw (← e, t, q, add-one)
+    round-on j t q = rw (← e, t, q, add-one)
 
     pub round-refused : u .within ≡ false → refusedProgress p (u .trial) ≡ round w o s D p
     unfolding round
     round-refused t = rw (← e, t)
 
-  -- the next state q, at a loop's turn
-  module _ (p q : Progress) (e : q ≡ round w o s D p) where
-    pub round-resumable : Within figureLimit (p .trial) → ended q ≡ false → Resumable s D q
-    round-resumable h =
-        rw e (
-        round-cases (λ r. ended r ≡ false → Resumable s D r) p
-        (λ Y k t. record { figures = k .figures h; residuals-are = refl })
-        (λ Y k t. absurd (true≢false t))
-        )
+  -- ---- the trials of the rounds
 
-    pub round-counts : q .rounds ≤ suc (p .rounds)
-    round-counts = rw e (round-cases (λ r. r .rounds ≤ suc (p .rounds)) p (λ Y k. omega arith) (λ Y k. omega arith))
+  -- each is within its limits and has its places, also where a round is refused
+  pub trial-formed : (k : ℕ) → Formed (replicate mostTanks (pos 0)) (trialOfRound w o s D k)
+  unfolding trialOfRound updated
+  trial-formed zero = unchanged (replicate mostTanks (pos 0))
+  trial-formed (suc k) =
+      let f = formed (s .n) (trialOfRound w o s D k) (substituted w (orderedResiduals o s (trial (s .n) D (trialOfRound w o s D k))) (s .n)) in
+      let g = trial-formed k in
+      record { figures = λ h. f .figures (g .figures h); places = f .places ∙ g .places }
 
-  -- the rest of the work from here is all of it
+  pub trial-start : trialOfRound w o s D 0 ≡ replicate mostTanks (pos 0)
+  unfolding trialOfRound
+  trial-start = refl
+
+  -- the next state q, at a loop's turn: where the work does not end, it is the next round's trial, judged
+  pub round-goes-on : (p q : Progress) → q ≡ round w o s D p → p .trial ≡ trialOfRound w o s D (p .rounds) → ended q ≡ false
+      → q ≡ judgedProgress s D (suc (p .rounds)) (trialOfRound w o s D (suc (p .rounds)))
+  unfolding round trialOfRound
+  round-goes-on p q e t = rw (e, t) (go (updated w o s D (trialOfRound w o s D (p .rounds))))
+    where
+      go : (u : Update) → ended (afterUpdate s D p u) ≡ false → afterUpdate s D p u ≡ judgedProgress s D (suc (p .rounds)) (u .trial)
+      go u = pick (u .within)
+        where
+          pick : (b : Bool) → ended (cond b (judgedProgress s D (suc (p .rounds)) (u .trial)) (refusedProgress p (u .trial))) ≡ false
+              → cond b (judgedProgress s D (suc (p .rounds)) (u .trial)) (refusedProgress p (u .trial)) ≡ judgedProgress s D (suc (p .rounds)) (u .trial)
+          pick true h = refl
+          pick false h = absurd (true≢false h)
+
+  -- ---- the rest of the work from here is all of it
+
   pub refined-none : (p : Progress) → refined w o s D 0 p ≡ p
   unfolding refined
   refined-none p = refl
@@ -133,3 +133,7 @@ module _ (w : List (List ℤ)) (o : List ℕ) (s : System) (D : ℕ) where
     pub refined-ended : ended q ≡ true → q ≡ refined w o s D m p
     unfolding refined
     refined-ended t = rw (left-round, ← e, t)
+
+-- a trial that is judged stands beside its own residuals
+pub judged-resumable : (s : System) (D k : ℕ) (Y : List ℤ) → Within figureLimit Y → Resumable s D (judgedProgress s D k Y)
+judged-resumable s D k Y h = record { figures = h; residuals-are = judgement-residuals s (trial (s .n) D Y) }

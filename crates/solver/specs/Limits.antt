@@ -2,7 +2,6 @@
 -- What the rounds ask of a system, of its elimination and of a trial, so that nothing wraps.
 use Prim.Native.Nat.{ℕ, suc, _^_, _<_, _≤_}
 use lib.IntN.{ℤ}
-use mathlib.Core.Bool.{true}
 use mathlib.Core.List.{List}
 use mathlib.Core.Path.{_≡_}
 use Rattle.limits.specs.Limits.{mostTanks, mostExponent}
@@ -13,7 +12,6 @@ use Rattle.elimination.specs.Claims.{Factors, Permutation}
 use Rattle.substitution.specs.Bounds.{residualBound}
 use Rattle.substitution.specs.Passes.{correctionLimit}
 use Rattle.solver.specs.Refinement.{Progress, figureLimit}
-use Rattle.solver.specs.declared.RefinementState.{RefinementState}
 
 -- "The exponent e is 0 to 3 and D is 10 to the power e."
 abbrev pub scaleLimit : ℕ
@@ -42,18 +40,13 @@ pub record Startable (w : List (List ℤ)) (o : List ℕ) (n D : ℕ) : Type 0 w
 -- a trial within its limits, beside the residuals that it leaves
 pub record Resumable (s : System) (D : ℕ) (p : Progress) : Type 0 where
   pub figures : Within figureLimit (p .trial)
-  pub residuals-are : p .measurement .residuals ≡ residualVector s (trial (s .n) D (p .trial))
+  pub residuals-are : p .judgement .residuals ≡ residualVector s (trial (s .n) D (p .trial))
 
 -- what a round asks; the last, that rounds can be counted on
 pub record Ready (w : List (List ℤ)) (o : List ℕ) (s : System) (D : ℕ) (p : Progress) : Type 0 where
   pub startable : Startable w o (s .n) D
   pub resumable : Resumable s D p
   pub countable : suc (p .rounds) < 2 ^ 64
-
--- what keeping asks: where the last round stayed within its limits, that one was made. The start is no verdict, so it is not kept
-pub record Keepable (n : ℕ) (r : RefinementState) : Type 0 where
-  pub small : n ≤ mostTanks
-  pub made : r .within ≡ true → 0 < r .rounds
 
 -- what an update asks, from the residuals R on
 pub record Updatable (n : ℕ) (w : List (List ℤ)) (o : List ℕ) (R Y : List ℤ) : Type 0 where

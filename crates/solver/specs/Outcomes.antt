@@ -1,9 +1,8 @@
 -- The solution by the elimination's outcome and the rounds allowed, as the code finds it. Assumes nothing.
-use Prim.Native.Nat.{ℕ, zero, suc, _^_, _<_, _≤_}
+use Prim.Native.Nat.{ℕ, _^_, _≤_}
 use lib.IntN.{ℤ}
 use mathlib.Core.List.{List}
 use mathlib.Core.Path.{_≡_, refl, ap}
-use native.Mathlib.Omega.{arith}
 use Rattle.limits.specs.Limits.{mostTanks}
 use Rattle.integers.specs.TableLaws.{zeros-within}
 use Rattle.integers.specs.Tables.{Within}
@@ -18,18 +17,12 @@ use Rattle.outcome.specs.Laws.{same-status}
 use Rattle.outcome.specs.Outcome.{statusNumber}
 use Rattle.outcome.specs.declared.Refusal.the-variants.{ZeroPivot}
 use Rattle.solver.specs.Limits.{Eliminated, Resumable}
-use Rattle.solver.specs.Refinement.{Progress, start, refined}
-use Rattle.solver.specs.Solution.{Solution, keptSolution, refusedSolution, solved, solution, SolutionIs}
+use Rattle.solver.specs.Refinement.{Progress, start}
+use Rattle.solver.specs.Solution.{Solution, refusedSolution, solved, solution, SolutionIs}
 
 module _ (s : System) (D : ℕ) where
   pub start-resumable : (p : Progress) → p ≡ start s D → Resumable s D p
   start-resumable p e = rw e (record { figures = zeros-within mostTanks; residuals-are = refl })
-
-  -- ---- by the rounds allowed
-
-  pub solved-some : (w : List (List ℤ)) (o : List ℕ) (K : ℕ) → 0 < K → keptSolution (s .n) (refined w o s D K (start s D)) ≡ solved w o s D K
-  solved-some w o zero h = absurd (omega arith)
-  solved-some w o (suc k) h = refl
 
   -- ---- by the elimination's outcome
 

@@ -2,14 +2,14 @@
 -- Refinement over one elimination: document 01's "The steps", from "Y starts at zero" on. `w` is the working matrix W as the elimination leaves it,
 -- and `o` the order of its rows. Rows and tanks are counted from 0.
 use Prim.Native.Nat.{ℕ, zero, suc, _+_}
-use lib.Dec.{leb, eqb}
+use lib.Dec.{leb}
 use lib.IntN.{ℤ, pos, natAbs, _+ℤ_}
 use lib.ListN.{getD, set, replicate}
 use mathlib.Core.Bool.{Bool, true, false, cond}
 use mathlib.Core.List.{List}
 use Rattle.limits.specs.Limits.{mostTanks, trialLimit}
 use Rattle.integers.specs.Tables.{filled}
-use Rattle.judge.specs.Judgement.{Measurement, measurementFrom, residualVector, measurement}
+use Rattle.judge.specs.Judgement.{Judgement, judgementFrom, residualVector, judgement}
 use Rattle.judge.specs.System.{System, Trial, trial, zeroTrial}
 use Rattle.substitution.specs.Passes.{Corrections, forward, backward}
 use Rattle.solver.specs.declared.RefinementState.{RefinementState}
@@ -63,16 +63,20 @@ updated w o s D Y = corrected (s .n) Y (substituted w (orderedResiduals o s (tri
 
 -- ---- rounds
 
--- a trial after so many rounds, what stands beside it of each row, and whether the last round stayed within its limits
+-- a trial after so many rounds, what is said of it, and whether the last round stayed within its limits
 pub record Progress : Type 0 where
   pub within : Bool
   pub rounds : ℕ
   pub trial : List ℤ
-  pub measurement : Measurement
+  pub judgement : Judgement
 
 -- as code holds it: the lists Y, R and T stand beside the state
 abbrev pub progressFrom : RefinementState → List ℤ → List ℤ → List ℕ → Progress
-progressFrom r Y R T = record { within = r .within; rounds = r .rounds; trial = Y; measurement = measurementFrom (r .unmet) R T }
+progressFrom r Y R T = record { within = r .within; rounds = r .rounds; trial = Y; judgement = judgementFrom (r .conclusion) R T }
+
+-- nothing is said of the start or of a refused trial, beside the residuals and reaches that stand there
+abbrev pub nothingSaid : List ℤ → List ℕ → Judgement
+nothingSaid R T = record { met = false; unmet = 0; none = false; decides = 0; residuals = R; reaches = T }
 
 -- "Y starts at zero." Beside it stand its residuals, which the first round starts from. It is no verdict: no reach is formed and no row is looked at
 abbrev pub start : System → ℕ → Progress
@@ -81,35 +85,48 @@ start s D =
       within = true;
       rounds = 0;
       trial = replicate mostTanks (pos 0);
-      measurement = measurementFrom 0 (residualVector s (zeroTrial (s .n) D)) (replicate mostTanks 0);
+      judgement = nothingSaid (residualVector s (zeroTrial (s .n) D)) (replicate mostTanks 0);
     }
 
--- a trial after k rounds, with what it leaves of each row: "The new Y is judged", and the row that decides is looked for in the kept one alone
-abbrev pub measuredProgress : System → ℕ → ℕ → List ℤ → Progress
-measuredProgress s D k Y = record { within = true; rounds = k; trial = Y; measurement = measurement s (trial (s .n) D Y) }
+-- a trial after k rounds: "The new Y is judged."
+abbrev pub judgedProgress : System → ℕ → ℕ → List ℤ → Progress
+judgedProgress s D k Y = record { within = true; rounds = k; trial = Y; judgement = judgement s (trial (s .n) D Y) }
 
 -- refusal 9: the trial Y as far as it was formed; the rest is as it stood before the round
 abbrev pub refusedProgress : Progress → List ℤ → Progress
-refusedProgress p Y = record { within = false; rounds = p .rounds; trial = Y; measurement = p .measurement }
+refusedProgress p Y = record { within = false; rounds = p .rounds; trial = Y; judgement = p .judgement }
 
 abbrev pub afterUpdate : System → ℕ → Progress → Update → Progress
-afterUpdate s D p u = cond (u .within) (measuredProgress s D (suc (p .rounds)) (u .trial)) (refusedProgress p (u .trial))
+afterUpdate s D p u = cond (u .within) (judgedProgress s D (suc (p .rounds)) (u .trial)) (refusedProgress p (u .trial))
 
--- "A round", document 01's term: from the residuals of the trial to what the next leaves
+-- "A round", document 01's term: from the residuals of the trial to the judgement of the next
 unfoldable pub round : List (List ℤ) → List ℕ → System → ℕ → Progress → Progress
 round w o s D p = afterUpdate s D p (updated w o s D (p .trial))
 
--- "The first that is met ends the work": the first with no unmet row, once a round is made; and so does a refusal. The start is no verdict, so it
--- ends nothing
-abbrev pub endedBy : Bool → ℕ → ℕ → Bool
-endedBy false rounds unmet = true
-endedBy true zero unmet = false
-endedBy true (suc k) unmet = eqb unmet 0
+-- "The first that is met ends the work", and so does a refusal. The start is not said to be met, so it ends nothing
+abbrev pub endedBy : Bool → Bool → Bool
+endedBy within met = cond within met true
 
 abbrev pub ended : Progress → Bool
-ended p = endedBy (p .within) (p .rounds) (p .measurement .unmet)
+ended p = endedBy (p .within) (p .judgement .met)
 
--- at most m rounds more: "after round K the last trial stands"
+-- at most m rounds more
 unfoldable pub refined : List (List ℤ) → List ℕ → System → ℕ → ℕ → Progress → Progress
 refined w o s D zero p = p
 refined w o s D (suc m) p = cond (ended (round w o s D p)) (round w o s D p) (refined w o s D m (round w o s D p))
+
+-- ---- the trials of the rounds
+
+-- the trial of round k: "Y starts at zero", and each round forms the next from the last. It stands for a trial as far as no round is refused
+unfoldable pub trialOfRound : List (List ℤ) → List ℕ → System → ℕ → ℕ → List ℤ
+trialOfRound w o s D zero = replicate mostTanks (pos 0)
+trialOfRound w o s D (suc k) = updated w o s D (trialOfRound w o s D k) .trial
+
+-- whether round k stays within its limits
+abbrev pub withinOfRound : List (List ℤ) → List ℕ → System → ℕ → ℕ → Bool
+withinOfRound w o s D zero = true
+withinOfRound w o s D (suc k) = updated w o s D (trialOfRound w o s D k) .within
+
+-- what is said of its trial
+abbrev pub judgementOfRound : List (List ℤ) → List ℕ → System → ℕ → ℕ → Judgement
+judgementOfRound w o s D k = judgement s (trial (s .n) D (trialOfRound w o s D k))

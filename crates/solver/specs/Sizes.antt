@@ -61,7 +61,7 @@ module _ (n : ℕ) (w : List (List ℤ)) (o : List ℕ) (R Y : List ℤ) (h : Up
 -- ---- a round starts from the residuals that stand beside the trial
 
 module _ (w : List (List ℤ)) (o : List ℕ) (s : System) (D : ℕ) (p : Progress) (h : Ready w o s D p) where
-  pub updatable : Ranges (s .rows .A) (s .rows .b) → Updatable (s .n) w o (p .measurement .residuals) (p .trial)
+  pub updatable : Ranges (s .rows .A) (s .rows .b) → Updatable (s .n) w o (p .judgement .residuals) (p .trial)
   updatable r =
       record {
         places = h .startable .limits .small;
@@ -70,6 +70,6 @@ module _ (w : List (List ℤ)) (o : List ℕ) (s : System) (D : ℕ) (p : Progre
         figures = h .resumable .figures;
       }
 
-  pub updated-from : (u : Update) → u ≡ corrected (s .n) (p .trial) (substituted w (permuted (s .n) o (p .measurement .residuals)) (s .n)) → u ≡ updated w o s D (p .trial)
+  pub updated-from : (u : Update) → u ≡ corrected (s .n) (p .trial) (substituted w (permuted (s .n) o (p .judgement .residuals)) (s .n)) → u ≡ updated w o s D (p .trial)
   unfolding updated
   updated-from u e = rw (h .resumable .residuals-are) at e

@@ -3,11 +3,11 @@
 use Prim.Native.Nat.{ℕ, zero, suc}
 use lib.IntN.{ℤ, pos}
 use lib.ListN.{replicate}
-use mathlib.Core.Bool.{false, cond}
+use mathlib.Core.Bool.{cond}
 use mathlib.Core.List.{List}
 use mathlib.Core.Path.{_≡_}
 use Rattle.limits.specs.Limits.{mostTanks}
-use Rattle.judge.specs.Judgement.{Measurement, Judgement, judgementFrom, judgement, concluded}
+use Rattle.judge.specs.Judgement.{Judgement, judgementFrom, judgement}
 use Rattle.judge.specs.System.{System, trial}
 use Rattle.elimination.specs.Outcome.{outcome}
 use Rattle.elimination.specs.Steps.{eliminated}
@@ -18,7 +18,8 @@ use Rattle.outcome.specs.declared.Refusal.{Refusal}
 use Rattle.outcome.specs.declared.Refusal.the-variants.{ZeroPivot, OutsideRange}
 use Rattle.outcome.specs.declared.Status.{Status}
 use Rattle.outcome.specs.declared.Status.the-variants.{Accepted, Refused}
-use Rattle.solver.specs.Refinement.{Progress, start, refined}
+use Rattle.solver.specs.Ranking.{RankedTrial, bestRound}
+use Rattle.solver.specs.Refinement.{Progress, nothingSaid, start, refined, trialOfRound}
 use Rattle.solver.specs.declared.Kept.{Kept}
 
 -- whether there is an answer, or the refusal: no pivot at some step (8), a correction or a figure outside its limits (9), or one from before the steps;
@@ -37,25 +38,21 @@ solutionFrom k Y R T = record { status = k .status; rounds = k .rounds; trial = 
 abbrev pub judgedTrial : System → ℕ → ℕ → List ℤ → Solution
 judgedTrial s D k Y = record { status = Accepted; rounds = k; trial = Y; judgement = judgement s (trial (s .n) D Y) }
 
--- nothing is said of a refused trial, beside the residuals and reaches that stand there
-abbrev pub nothingSaid : Measurement → Judgement
-nothingSaid m = record { met = false; unmet = 0; none = false; decides = 0; residuals = m .residuals; reaches = m .reaches }
-
 abbrev pub refusedSolution : Refusal → Progress → Solution
-refusedSolution r p = record { status = Refused r; rounds = p .rounds; trial = p .trial; judgement = nothingSaid (p .measurement) }
+refusedSolution r p = record { status = Refused r; rounds = p .rounds; trial = p .trial; judgement = nothingSaid (p .judgement .residuals) (p .judgement .reaches) }
 
--- what is said of the n rows of an answer is concluded from what stands beside it
-abbrev pub acceptedSolution : ℕ → Progress → Solution
-acceptedSolution n p = record { status = Accepted; rounds = p .rounds; trial = p .trial; judgement = concluded n (p .measurement) }
-
--- which trial is kept: the last, be it the first that is met or the one after round K. Asked only where a round was made (`Keepable` of Limits)
-abbrev pub keptSolution : ℕ → Progress → Solution
-keptSolution n p = cond (p .within) (acceptedSolution n p) (refusedSolution OutsideRange p)
+-- which trial is kept of the rounds 1 to K, where the work ends at p: "The first that is met", with its own round; where none is met "the one with the
+-- least factor", and "rounds used is then K"; or refusal 9
+abbrev pub keptSolution : List (List ℤ) → List ℕ → System → ℕ → ℕ → Progress → Solution
+keptSolution w o s D K p =
+    cond (p .within)
+    (cond (p .judgement .met) (judgedTrial s D (p .rounds) (p .trial)) (judgedTrial s D K (trialOfRound w o s D (bestRound w o s D K))))
+    (refusedSolution OutsideRange p)
 
 -- over one complete elimination, which others may share: its working matrix and the order of its rows. With no round allowed the answer is zero
 abbrev pub solved : List (List ℤ) → List ℕ → System → ℕ → ℕ → Solution
 solved w o s D zero = judgedTrial s D 0 (replicate mostTanks (pos 0))
-solved w o s D (suc k) = keptSolution (s .n) (refined w o s D (suc k) (start s D))
+solved w o s D (suc k) = keptSolution w o s D (suc k) (refined w o s D (suc k) (start s D))
 
 -- the rounds are made where the elimination is complete; refusal 8 comes where it is not
 abbrev pub byElimination : Elimination → Solution → Solution → Solution
@@ -68,6 +65,19 @@ solution s D K =
     byElimination (outcome (s .n) (eliminated (s .n) (s .rows .A) .steps))
     (solved (eliminated (s .n) (s .rows .A) .working) (eliminated (s .n) (s .rows .A) .order) s D K)
     (refusedSolution ZeroPivot (start s D))
+
+-- ---- as code finds it
+
+-- a trial after k rounds as an answer, with what is said of it
+abbrev pub acceptedSolution : ℕ → List ℤ → Judgement → Solution
+acceptedSolution k Y j = record { status = Accepted; rounds = k; trial = Y; judgement = j }
+
+-- what is kept where the work ends at p and b is the best trial
+abbrev pub keptOf : Progress → RankedTrial → Solution
+keptOf p b =
+    cond (p .within)
+    (cond (p .judgement .met) (acceptedSolution (p .rounds) (p .trial) (p .judgement)) (acceptedSolution (p .rounds) (b .trial) (b .judgement)))
+    (refusedSolution OutsideRange p)
 
 -- ---- what is promised
 

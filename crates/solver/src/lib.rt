@@ -1,23 +1,27 @@
-// The answer of a system of linear equations: one elimination, then rounds of refinement, each trial measured, and the kept one judged.
-ghost use Prim.Native.Nat.{ℕ, _≤_};
+// The answer of a system of linear equations: one elimination, then rounds of refinement, each trial judged, and the first that is met or the best
+// of them kept.
+ghost use Prim.Native.Nat.{ℕ, _<_, _≤_};
 ghost use lib.IntN.{ℤ};
+ghost use mathlib.Core.Bool.{true, false};
 ghost use mathlib.Core.List.{List};
 ghost use mathlib.Core.Path.{_≡_};
 ghost use Rattle.limits.specs.Limits.{mostTanks};
+ghost use Rattle.fractions.specs.Fraction.{_over_};
+ghost use Rattle.judge.specs.Judgement.{judgementFrom};
 ghost use Rattle.judge.specs.System.{system};
 ghost use Rattle.elimination.specs.Claims.{Permutation};
-ghost use Rattle.solver.specs.Limits.{Limits, Ranges, FiguresCorrectable, Updatable, Ready, Keepable, Startable};
-ghost use Rattle.solver.specs.Refinement.{permuted, substituted, update, correctedFrom, corrected, Progress, progressFrom, round as roundOf, endedBy, refined, start as startOf};
-ghost use Rattle.solver.specs.Solution.{solutionFrom, refusedSolution, keptSolution, solved, solution, SolutionIs};
+ghost use Rattle.solver.specs.Limits.{Limits, Ranges, FiguresCorrectable, Updatable, Ready, Startable};
+ghost use Rattle.solver.specs.Refinement.{permuted, substituted, update, correctedFrom, corrected, nothingSaid, Progress, progressFrom, round as roundOf, endedBy, refined, start as startOf};
+ghost use Rattle.solver.specs.Ranking.{rankedFrom, unranked, takesPlace, ranked, bestAfter, bestOfRounds};
+ghost use Rattle.solver.specs.Solution.{solutionFrom, refusedSolution, keptOf, solved, solution, SolutionIs};
 use elimination::Elimination;
 use elimination::eliminate;
+use fractions::exceeds;
 use integers::magnitude;
 use integers::scaled;
 use judge::Conclusion;
 use judge::RightHandSide;
-use judge::conclude;
 use judge::judge;
-use judge::measure;
 use limits::MOST_COEFFICIENTS;
 use limits::MOST_TANKS;
 use limits::TRIAL_LIMIT;
@@ -85,16 +89,37 @@ fn type_ranges(coefficients: [i16; MOST_COEFFICIENTS], right_hand_side: RightHan
     ensures { λ r. ⌜ Ranges coefficients («right_hand_side» .values) ⌝ }
 {}
 
-// What is said of the rounds so far, beside a trial with residuals and reaches: whether the last round stayed within its limits, how many there
-// were, and the trial's first unmet row, counted from 1, or 0; 0 too where no round was made and no row was looked at. After refusal 9 it is as before
-// that round.
+// What is kept of the best trial so far, beside that trial with its residuals and reaches: what is said of it, and the factor of the row that decides,
+// as a fraction: by it trials are ranked.
+pub struct BestTrial {
+    pub conclusion: Conclusion,
+    pub numerator: u64,
+    pub denominator: u64,
+}
+
+// What is said of the rounds so far, beside a trial with residuals and reaches and beside the best trial with its own: whether the last round stayed
+// within its limits, how many there were, what is said of the trial, and of the best of them. Where no round was made nothing is said. After refusal 9
+// it is as before that round.
 pub struct RefinementState {
     pub within: bool,
     pub rounds: usize,
-    pub unmet: usize,
+    pub conclusion: Conclusion,
+    pub best: BestTrial,
 }
 
-// The trial to start from, which is zero, beside its residuals, which are D × b; its reaches are not formed and stand as zeros.
+// What is said where nothing is known: of the start, and after a refusal.
+fn nothing_said() -> Conclusion
+    ensures { λ r. ⌜ ((R : List ℤ) (T : List ℕ) → judgementFrom r R T ≡ nothingSaid R T) ⌝ }
+{
+    Conclusion {
+        met: false,
+        unmet: 0,
+        none: false,
+        decides: 0,
+    }
+}
+
+// The trial to start from, which is zero, beside its residuals, which are D × b; its reaches are not formed and stand as zeros. No trial is the best.
 pub fn start(
     n: usize,
     scale: u16,
@@ -104,7 +129,8 @@ pub fn start(
     reaches: &mut [u64; MOST_TANKS],
 ) -> RefinementState
     requires { ⌜ n ≤ mostTanks ⌝ }
-    ensures { λ r. ⌜ ((A : List ℤ) (E : List ℕ) → progressFrom r (now (trial .exit)) (now (residuals .exit)) (now (reaches .exit)) ≡ startOf (system n A E («right_hand_side» .values) («right_hand_side» .tolerances)) scale) ⌝ }
+    ensures progress { λ r. ⌜ ((A : List ℤ) (E : List ℕ) → progressFrom r (now (trial .exit)) (now (residuals .exit)) (now (reaches .exit)) ≡ startOf (system n A E («right_hand_side» .values) («right_hand_side» .tolerances)) scale) ⌝ }
+    ensures best { λ r. ⌜ ((Y : List ℤ) (R : List ℤ) (T : List ℕ) → rankedFrom (r .best) Y R T ≡ unranked Y R T) ⌝ }
 {
     *trial = [0i32; MOST_TANKS];
     *residuals = [0i64; MOST_TANKS];
@@ -112,15 +138,68 @@ pub fn start(
     for i in 0..n {
         residuals[i] = scaled(scale, right_hand_side.values[i]);
     }
+    let conclusion = nothing_said();
+    let best = BestTrial {
+        conclusion,
+        numerator: 0,
+        denominator: 0,
+    };
     RefinementState {
         within: true,
         rounds: 0,
-        unmet: 0,
+        conclusion,
+        best,
     }
 }
 
-// One round: the next trial in place of the last, with what it leaves of each row; or refusal 9, where residuals and reaches stay as they are and
-// the trial is as far as it was formed.
+// Whether one more trial takes the best one's place, after so many others: where it is the first, or where the best one's factor exceeds its own.
+fn takes_place(others: usize, best: BestTrial, numerator: u64, denominator: u64) -> bool
+    ensures { λ r. ⌜ r ≡ takesPlace others (best .numerator over best .denominator) (numerator over denominator) ⌝ }
+{
+    if others == 0 {
+        true
+    } else {
+        exceeds(best.numerator, best.denominator, numerator, denominator)
+    }
+}
+
+// The best trial after one more, behind so many others. Only an unmet one is ranked; a met one ends the work.
+fn rank<'a>(
+    others: usize,
+    best: BestTrial,
+    conclusion: Conclusion,
+    trial: &'a [i32; MOST_TANKS],
+    residuals: &'a [i64; MOST_TANKS],
+    reaches: &'a [u64; MOST_TANKS],
+    best_trial: &mut [i32; MOST_TANKS],
+    best_residuals: &mut [i64; MOST_TANKS],
+    best_reaches: &mut [u64; MOST_TANKS],
+) -> BestTrial
+    requires { ⌜ (1 ≤ conclusion .decides) × (conclusion .decides ≤ mostTanks) ⌝ }
+    ensures { λ r. ⌜ rankedFrom r (now («best_trial» .exit)) (now («best_residuals» .exit)) (now («best_reaches» .exit)) ≡ ranked others (rankedFrom best (now («best_trial» .entry)) (now («best_residuals» .entry)) (now («best_reaches» .entry))) (now (trial .entry)) (judgementFrom conclusion (now (residuals .entry)) (now (reaches .entry))) ⌝ }
+{
+    if conclusion.met {
+        return best;
+    }
+    let at = conclusion.decides - 1;
+    let numerator = magnitude(residuals[at]);
+    let denominator = reaches[at];
+    if takes_place(others, best, numerator, denominator) {
+        *best_trial = *trial;
+        *best_residuals = *residuals;
+        *best_reaches = *reaches;
+        BestTrial {
+            conclusion,
+            numerator,
+            denominator,
+        }
+    } else {
+        best
+    }
+}
+
+// One round: the next trial in place of the last, judged, and ranked where it is unmet; or refusal 9, where residuals, reaches and the best trial stay
+// as they are and the trial is as far as it was formed.
 pub fn round<'a>(
     n: usize,
     scale: u16,
@@ -133,13 +212,17 @@ pub fn round<'a>(
     trial: &mut [i32; MOST_TANKS],
     residuals: &mut [i64; MOST_TANKS],
     reaches: &mut [u64; MOST_TANKS],
+    best_trial: &mut [i32; MOST_TANKS],
+    best_residuals: &mut [i64; MOST_TANKS],
+    best_reaches: &mut [u64; MOST_TANKS],
 ) -> RefinementState
     requires { ⌜ Ready (now working) (now order) (system n (now coefficients) (now tolerances) («right_hand_side» .values) («right_hand_side» .tolerances)) scale (progressFrom state (now trial) (now residuals) (now reaches)) ⌝ }
-    ensures { λ r. ⌜ progressFrom r (now (trial .exit)) (now (residuals .exit)) (now (reaches .exit)) ≡ roundOf (now (working .entry)) (now (order .entry)) (system n (now (coefficients .entry)) (now (tolerances .entry)) («right_hand_side» .values) («right_hand_side» .tolerances)) scale (progressFrom state (now (trial .entry)) (now (residuals .entry)) (now (reaches .entry))) ⌝ }
+    ensures progress { λ r. ⌜ progressFrom r (now (trial .exit)) (now (residuals .exit)) (now (reaches .exit)) ≡ roundOf (now (working .entry)) (now (order .entry)) (system n (now (coefficients .entry)) (now (tolerances .entry)) («right_hand_side» .values) («right_hand_side» .tolerances)) scale (progressFrom state (now (trial .entry)) (now (residuals .entry)) (now (reaches .entry))) ⌝ }
+    ensures best { λ r. ⌜ rankedFrom (r .best) (now («best_trial» .exit)) (now («best_residuals» .exit)) (now («best_reaches» .exit)) ≡ bestAfter (state .rounds) (rankedFrom (state .best) (now («best_trial» .entry)) (now («best_residuals» .entry)) (now («best_reaches» .entry))) (progressFrom r (now (trial .exit)) (now (residuals .exit)) (now (reaches .exit))) ⌝ }
 {
     type_ranges(*coefficients, right_hand_side);
     if update_trial(n, working, order, residuals, trial) {
-        let unmet = measure(
+        let conclusion = judge(
             n,
             scale,
             coefficients,
@@ -149,32 +232,47 @@ pub fn round<'a>(
             residuals,
             reaches,
         );
+        let best = rank(
+            state.rounds,
+            state.best,
+            conclusion,
+            trial,
+            residuals,
+            reaches,
+            best_trial,
+            best_residuals,
+            best_reaches,
+        );
         RefinementState {
             within: true,
             rounds: state.rounds + 1,
-            unmet,
+            conclusion,
+            best,
         }
     } else {
+        let conclusion = state.conclusion;
+        let best = state.best;
         RefinementState {
             within: false,
             rounds: state.rounds,
-            unmet: state.unmet,
+            conclusion,
+            best,
         }
     }
 }
 
-// Whether the work ends here: a round was made and no row is unmet, or refusal 9. The start ends nothing.
+// Whether the work ends here: the trial is met, or refusal 9. The start ends nothing.
 pub fn ended(state: RefinementState) -> bool
-    ensures { λ r. ⌜ r ≡ endedBy (state .within) (state .rounds) (state .unmet) ⌝ }
+    ensures { λ r. ⌜ r ≡ endedBy (state .within) (state .conclusion .met) ⌝ }
 {
     if state.within {
-        (0 < state.rounds) & (state.unmet == 0)
+        state.conclusion.met
     } else {
         true
     }
 }
 
-// From the start, rounds until one is met, or refused, or `rounds` of them are done.
+// From the start, rounds until one is met, or refused, or `rounds` of them are done; where none is met, with the best of their trials.
 fn refine<'a>(
     n: usize,
     scale: u16,
@@ -187,9 +285,13 @@ fn refine<'a>(
     trial: &mut [i32; MOST_TANKS],
     residuals: &mut [i64; MOST_TANKS],
     reaches: &mut [u64; MOST_TANKS],
+    best_trial: &mut [i32; MOST_TANKS],
+    best_residuals: &mut [i64; MOST_TANKS],
+    best_reaches: &mut [u64; MOST_TANKS],
 ) -> RefinementState
     requires { ⌜ Startable (now working) (now order) n scale ⌝ }
-    ensures { λ r. ⌜ progressFrom r (now (trial .exit)) (now (residuals .exit)) (now (reaches .exit)) ≡ refined (now (working .entry)) (now (order .entry)) (system n (now (coefficients .entry)) (now (tolerances .entry)) («right_hand_side» .values) («right_hand_side» .tolerances)) scale rounds (startOf (system n (now (coefficients .entry)) (now (tolerances .entry)) («right_hand_side» .values) («right_hand_side» .tolerances)) scale) ⌝ }
+    ensures progress { λ r. ⌜ progressFrom r (now (trial .exit)) (now (residuals .exit)) (now (reaches .exit)) ≡ refined (now (working .entry)) (now (order .entry)) (system n (now (coefficients .entry)) (now (tolerances .entry)) («right_hand_side» .values) («right_hand_side» .tolerances)) scale rounds (startOf (system n (now (coefficients .entry)) (now (tolerances .entry)) («right_hand_side» .values) («right_hand_side» .tolerances)) scale) ⌝ }
+    ensures best { λ r. ⌜ (0 < rounds → r .within ≡ true → r .conclusion .met ≡ false → rankedFrom (r .best) (now («best_trial» .exit)) (now («best_residuals» .exit)) (now («best_reaches» .exit)) ≡ bestOfRounds (now (working .entry)) (now (order .entry)) (system n (now (coefficients .entry)) (now (tolerances .entry)) («right_hand_side» .values) («right_hand_side» .tolerances)) scale rounds) ⌝ }
 {
     let mut state = start(n, scale, right_hand_side, trial, residuals, reaches);
     let mut left = rounds;
@@ -206,6 +308,9 @@ fn refine<'a>(
             trial,
             residuals,
             reaches,
+            best_trial,
+            best_residuals,
+            best_reaches,
         );
         if ended(state) {
             return state;
@@ -226,14 +331,9 @@ pub struct Kept {
 // What is kept where there is no answer, be the refusal of the reading, of the elimination or of a round: it and the rounds made. Nothing is said,
 // whatever trial, residuals and reaches stand there.
 pub fn refused(refusal: Refusal, rounds: usize) -> Kept
-    ensures { λ r. ⌜ ((p : Progress) → p .rounds ≡ rounds → SolutionIs (solutionFrom r (p .trial) (p .measurement .residuals) (p .measurement .reaches)) (refusedSolution refusal p)) ⌝ }
+    ensures { λ r. ⌜ ((p : Progress) → p .rounds ≡ rounds → SolutionIs (solutionFrom r (p .trial) (p .judgement .residuals) (p .judgement .reaches)) (refusedSolution refusal p)) ⌝ }
 {
-    let conclusion = Conclusion {
-        met: false,
-        unmet: 0,
-        none: false,
-        decides: 0,
-    };
+    let conclusion = nothing_said();
     Kept {
         status: Status::Refused(refusal),
         rounds,
@@ -241,20 +341,34 @@ pub fn refused(refusal: Refusal, rounds: usize) -> Kept
     }
 }
 
-// What is kept of n rows after the last round, whatever the trial is that the residuals and reaches are of. The start is no verdict, so a round must
-// have been made where the last stayed within its limits.
+// What is kept after the last round: its trial where that is met, and otherwise the best, whose figures take the places of the last. Nothing is judged
+// again.
 pub fn keep<'a>(
-    n: usize,
     state: RefinementState,
-    residuals: &'a [i64; MOST_TANKS],
-    reaches: &'a [u64; MOST_TANKS],
+    best_trial: &'a [i32; MOST_TANKS],
+    best_residuals: &'a [i64; MOST_TANKS],
+    best_reaches: &'a [u64; MOST_TANKS],
+    trial: &mut [i32; MOST_TANKS],
+    residuals: &mut [i64; MOST_TANKS],
+    reaches: &mut [u64; MOST_TANKS],
 ) -> Kept
-    requires { ⌜ Keepable n state ⌝ }
-    ensures { λ r. ⌜ ((Y : List ℤ) → SolutionIs (solutionFrom r Y (now (residuals .entry)) (now (reaches .entry))) (keptSolution n (progressFrom state Y (now (residuals .entry)) (now (reaches .entry))))) ⌝ }
+    ensures { λ r. ⌜ SolutionIs (solutionFrom r (now (trial .exit)) (now (residuals .exit)) (now (reaches .exit))) (keptOf (progressFrom state (now (trial .entry)) (now (residuals .entry)) (now (reaches .entry))) (rankedFrom (state .best) (now («best_trial» .entry)) (now («best_residuals» .entry)) (now («best_reaches» .entry)))) ⌝ }
 {
     if state.within {
-        let conclusion = conclude(n, state.unmet, residuals, reaches);
         let status = Status::Accepted;
+        let last = state.conclusion;
+        if last.met {
+            return Kept {
+                status,
+                rounds: state.rounds,
+                conclusion: last,
+            };
+        }
+        *trial = *best_trial;
+        *residuals = *best_residuals;
+        *reaches = *best_reaches;
+        let best = state.best;
+        let conclusion = best.conclusion;
         Kept {
             status,
             rounds: state.rounds,
@@ -301,6 +415,9 @@ pub fn solve_eliminated<'a>(
             conclusion,
         };
     }
+    let mut best_trial = [0i32; MOST_TANKS];
+    let mut best_residuals = [0i64; MOST_TANKS];
+    let mut best_reaches = [0u64; MOST_TANKS];
     let state = refine(
         n,
         scale,
@@ -313,8 +430,19 @@ pub fn solve_eliminated<'a>(
         trial,
         residuals,
         reaches,
+        &mut best_trial,
+        &mut best_residuals,
+        &mut best_reaches,
     );
-    keep(n, state, residuals, reaches)
+    keep(
+        state,
+        &best_trial,
+        &best_residuals,
+        &best_reaches,
+        trial,
+        residuals,
+        reaches,
+    )
 }
 
 // The answer of n rows over n tanks in at most `rounds` rounds, or the refusal that the steps reach. With no round allowed the answer is zero, unless

@@ -11,14 +11,15 @@ use Rattle.integers.specs.Tables.{table, filled, fill}
 use Rattle.rounding.specs.Half.{roundsUp}
 use Rattle.rounding.specs.Round.{near, rnd}
 use Rattle.fractions.specs.Fraction.{orderOfNumbers, order}
-use Rattle.fractions.specs.Greatest.{firstGreatest}
+use Rattle.fractions.specs.First.{firstBest}
 use Rattle.judge.specs.Finding.{Finding, factorNumerator, factorDenominator}
 use Rattle.judge.specs.Judgement.{firstNot, firstUnmet, deciding, judgement}
 use Rattle.judge.specs.System.{residual, reach}
 use Rattle.elimination.specs.Outcome.{outcome}
 use Rattle.elimination.specs.Steps.{workingRow, workingMatrix, pivotFrom, pivotRow, eliminatedRow, eliminatedBelow, nextRun, afterSteps, eliminated}
 use Rattle.substitution.specs.Passes.{forward, correction, backwardFrom, backward}
-use Rattle.solver.specs.Refinement.{correctedFrom, updated, round, refined}
+use Rattle.solver.specs.Ranking.{bestRound}
+use Rattle.solver.specs.Refinement.{correctedFrom, updated, round, refined, trialOfRound}
 use Rattle.solver.specs.Solution.{solution}
 use Rattle.outcome.specs.CallResult.{CallResult}
 use Rattle.bigendian.specs.Number.{be, beBytes}
@@ -92,5 +93,5 @@ lent room = replicate room 0xA5
 -- the call on a case's bytes, with the shortest result buffer that it takes. The line below names all that the call computes with, once for
 -- every statement about it
 unfoldable pub found : Case → Result
-unfolding encode rowBytes split spread judgeResult decode inputStatus caseOf headStatus rowsStatus rowStatus rowOf rowsFine trialStatus trialOf endStatus tailStatus fieldStatus items all be caseSolution answerOf solution eliminated afterSteps nextRun pivotRow pivotFrom eliminatedBelow eliminatedRow workingMatrix workingRow fill outcome refined round updated correctedFrom forward backward backwardFrom correction rnd near roundsUp judgement firstUnmet firstNot deciding firstGreatest order orderOfNumbers residual reach filled recordResult recordOf conditionFields run field beBytes
+unfolding encode rowBytes split spread judgeResult decode inputStatus caseOf headStatus rowsStatus rowStatus rowOf rowsFine trialStatus trialOf endStatus tailStatus fieldStatus items all be caseSolution answerOf solution eliminated afterSteps nextRun pivotRow pivotFrom eliminatedBelow eliminatedRow workingMatrix workingRow fill outcome refined trialOfRound bestRound round updated correctedFrom forward backward backwardFrom correction rnd near roundsUp judgement firstUnmet firstNot deciding firstBest order orderOfNumbers residual reach filled recordResult recordOf conditionFields run field beBytes
 found c = resultOf (c .n) (judgeResult (encode c) (lent longestRecord))

@@ -5,8 +5,10 @@
 mod lapack;
 mod timing;
 
+use bench::figures::MOST_ROUNDS;
 use bench::pool::{
-    pool, soundings_pool, Entry, DESCRIPTION, POOL_SIZE, ROUNDS, SOUNDINGS_ROUNDS, TANKS,
+    pool, ranked_pool, soundings_pool, Entry, DESCRIPTION, POOL_SIZE, RANKED_TANKS, ROUNDS,
+    SOUNDINGS_ROUNDS, TANKS,
 };
 use bench::twin::{self, RECORD_ROOM, SOUNDINGS_ROOM};
 use std::hint::black_box;
@@ -26,6 +28,11 @@ fn main() {
             worst_backward_error = worst_backward_error.max(check_lapack(&cases));
             print_row("judge", n, rounds, &measure_judging(&cases, rounds > 0));
         }
+    }
+    for n in RANKED_TANKS {
+        let cases = ranked_pool(n, seed);
+        check_agreement(&cases);
+        print_row("rank", n, MOST_ROUNDS, &measure_judging(&cases, false));
     }
     for n in TANKS {
         print_row("read", n, 1, &measure_reading(&pool(n, 1, seed)));

@@ -2,7 +2,7 @@
 use borrow.Author.Needs.{needs}
 use mathlib.Core.Path.{sym, ap, _∙_}
 use Rattle.fractions.specs.Greatest.{isGreater}
-use Rattle.fractions.specs.GreatestLaws.{smaller, larger}
+use Rattle.fractions.specs.RankLaws.{smaller, larger}
 use Rattle.fractions.proofs.exceeds.Statement.{statement}
 use Rattle.fractions.proofs.exceeds.Tie as tie
 

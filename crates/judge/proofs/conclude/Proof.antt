@@ -9,7 +9,8 @@ use mir.Syntax.{w64}
 use mir.Val.{SFits}
 use native.Mathlib.Omega.{arith}
 use Rattle.limits.specs.Limits.{mostTanks}
-use Rattle.fractions.specs.GreatestLaws.{first-greatest-below}
+use Rattle.fractions.specs.FirstLaws.{first-below}
+use Rattle.fractions.specs.Greatest.{greater}
 use Rattle.judge.specs.Judgement.{decidingPlace, measurementFrom}
 use Rattle.judge.specs.Laws.{conclusion}
 use Rattle.judge.proofs.conclude.Statement.{statement}
@@ -24,7 +25,7 @@ module _ (c : tie.After-greatest-factor) where
   place-is = c .greatest-factor .ensures
 
   place : c .greatest-factor .result < mostTanks
-  place = rw (c .greatest-factor .ensures) (first-greatest-below _ (begun .args .n) mostTanks (begun .pre) (omega arith))
+  place = rw (c .greatest-factor .ensures) (first-below greater _ (begun .args .n) mostTanks (begun .pre) (omega arith))
 
 mul-lacks-factor : tie.Need-mul-lacks-factor
 mul-lacks-factor c = omega (arith, place c)

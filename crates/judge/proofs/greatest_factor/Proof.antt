@@ -13,8 +13,8 @@ use mir.Val.{SFits}
 use native.Mathlib.Omega.{arith}
 use Rattle.limits.specs.Limits.{mostTanks}
 use Rattle.fractions.specs.Fraction.{Fraction, order}
-use Rattle.fractions.specs.Greatest.{isGreater, firstGreatest}
-use Rattle.fractions.specs.GreatestLaws.{first-greatest-none, first-greatest-one, first-greatest-next}
+use Rattle.fractions.specs.Greatest.{isGreater, greater, firstGreatest}
+use Rattle.fractions.specs.FirstLaws.{first-none, first-one, first-next}
 use Rattle.judge.specs.Judgement.{factor}
 use Rattle.judge.proofs.greatest_factor.Statement.{statement}
 use Rattle.judge.proofs.greatest_factor.Tie as tie
@@ -30,12 +30,12 @@ abbrev μ-loop : tie.MeasureT-loop
 μ-loop n residuals reaches best₀ i₀ best i = n - i
 
 loop-holds : tie.Need-loop-holds Inv-loop μ-loop
-loop-holds c = (omega arith, omega arith, omega arith, sym (first-greatest-one (factors (c .args .residuals .now) (c .args .reaches .now))))
+loop-holds c = (omega arith, omega arith, omega arith, sym (first-one greater (factors (c .args .residuals .now) (c .args .reaches .now))))
 
 -- one factor more
 next : (g : ℕ → Fraction) (i best : ℕ) (b : Bool) → best ≡ firstGreatest g i → b ≡ isGreater (order (g i) (g best))
     → cond b i best ≡ firstGreatest g (i + 1)
-next g i best b e h = rw (first-greatest-next g i, ← e, ← h)
+next g i best b e h = rw (first-next greater g i, ← e, ← h)
 
 module _ (c : tie.After-exceeds Inv-loop μ-loop) where
   abbrev start : tie.Start Inv-loop μ-loop
@@ -71,7 +71,7 @@ loop-again c =
 
 -- at the loop's end i is n, or 1 where n is 0
 last : (g : ℕ → Fraction) (n i : ℕ) → 1 ≤ i → i ≤ max 1 n → n ≤ i → firstGreatest g i ≡ firstGreatest g n
-last g zero i h k l = let e : i ≡ 1 = omega arith in rw e (first-greatest-one g ∙ sym (first-greatest-none g))
+last g zero i h k l = let e : i ≡ 1 = omega arith in rw e (first-one greater g ∙ sym (first-none greater g))
 last g (suc n) i h k l = let e : i ≡ suc n = omega arith in rw e
 
 returns : tie.Need-returns Inv-loop μ-loop

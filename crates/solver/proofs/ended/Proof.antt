@@ -1,14 +1,9 @@
--- `solver::ended` meets its contract: where the last round stayed within its limits, the unmet row decides, once a round is made.
--- Assumes nothing.
-use Rattle.solver.specs.Laws.{ended-within}
+-- `solver::ended` meets its contract: where the last round stayed within its limits, whether its trial is met decides. Assumes nothing.
 use Rattle.solver.proofs.ended.Statement.{statement}
 use Rattle.solver.proofs.ended.Tie as tie
 
 returns : tie.Need-returns
-returns c =
-    let d = c .before .before in
-    let state = d .before .args .state in
-    rw (d .if1 .taken) (ended-within (state .rounds) (state .unmet))
+returns c = rw (c .if1 .taken)
 
 returns-2 : tie.Need-returns-2
 returns-2 c = rw (c .if1 .left)

@@ -1,9 +1,12 @@
--- `solver::round` meets its contract: the residuals that stand beside the trial are the trial's, and the next trial's take their places.
--- Assumes nothing.
+-- `solver::round` meets its contract: the residuals that stand beside the trial are the trial's, and the next trial's take their places; it is ranked
+-- beside the best. Assumes nothing.
 use Prim.Native.Nat.{ℕ}
 use borrow.Author.Needs.{needs}
-use mathlib.Core.Path.{_≡_}
-use Rattle.judge.specs.System.{System, system}
+use mathlib.Core.Path.{_≡_, refl, ap}
+use native.Mathlib.Omega.{arith}
+use Rattle.judge.specs.Deciding.{decides-place}
+use Rattle.judge.specs.Judgement.{Judgement}
+use Rattle.judge.specs.System.{System, system, trial}
 use Rattle.solver.specs.Laws.{round-on, round-refused}
 use Rattle.solver.specs.Refinement.{Update, update, updated, Progress, progressFrom}
 use Rattle.solver.specs.Sizes.{updatable, updated-from}
@@ -37,17 +40,33 @@ update-trial-requires c κs =
     let b = c .before .before .before .before in
     updatable (b .args .working .now) (b .args .order .now) (s′ b) (D′ b) (p′ b) (b .pre) (c .before .before .type-ranges .ensures)
 
+-- the row that decides is one of the eight places
+rank-requires : tie.Need-rank-requires
+rank-requires c κs =
+    let j = c .before .before .before .before .before .before in
+    let d = j .before .before .before .before .before in
+    let b = begun d in
+    rw (ap (λ (x : Judgement). x .decides) (j .judge .ensures)) (decides-place (s′ b) (trial (b .args .n) (D′ b) (next d .trial)) (b .pre .startable .limits .small))
+
+counted : tie.Need-add-t34
+counted c = omega (arith, begun (c .before .before .before .before .before .before .before .before .before .before .before .before .before) .pre .countable)
+
 returns : tie.Need-returns
 returns c =
-    let d = c .before .before .before .before .before .before in
-    let b = begun d in
-    round-on (b .args .working .now) (b .args .order .now) (s′ b) (D′ b) (p′ b) (next d) (next-is d) _ (c .before .before .before .before .before .if1 .taken) (c .before .measure .ensures)
+    let j = c .before .before .before .before .before .before .before .before in
+    let d = j .before .before .before .before .before in
+    let b = begun d in (
+      round-on (b .args .working .now) (b .args .order .now) (s′ b) (D′ b) (p′ b) (next d) (next-is d) _ (j .before .before .before .before .if1 .taken) (j .judge .ensures),
+      c .before .rank .ensures,
+    )
 
 returns-2 : tie.Need-returns-2
 returns-2 c =
-    let d = c .before in
-    let b = begun d in
-    round-refused (b .args .working .now) (b .args .order .now) (s′ b) (D′ b) (p′ b) (next d) (next-is d) (c .if1 .left)
+    let d = c .before .before .before in
+    let b = begun d in (
+      round-refused (b .args .working .now) (b .args .order .now) (s′ b) (D′ b) (p′ b) (next d) (next-is d) (c .before .before .if1 .left),
+      refl,
+    )
 
 pub round-spec : {M : Type 1} → statement M
 round-spec =
@@ -56,6 +75,7 @@ round-spec =
     (λ c κs. search needs)
     update-trial-requires
     (λ c κs. search needs)
-    (λ c. search needs)
+    rank-requires
+    counted
     returns
     returns-2)

@@ -38,7 +38,7 @@ module _ (c : tie.After-start) where
   first = progressFrom (c .start .result) (c .start .last .1 .1 .1 .0) (c .start .last .1 .1 .1 .1 .0) (c .start .last .1 .1 .1 .1 .1 .0)
 
   first-is : first ≡ start (s′ (begun made)) (D′ (begun made))
-  first-is = c .start .ensures (begun made .args .coefficients .now) (begun made .args .tolerances .now)
+  first-is = c .start .ensures .0 (begun made .args .coefficients .now) (begun made .args .tolerances .now)
 
 solve-eliminated-requires : tie.Need-solve-eliminated-requires
 solve-eliminated-requires c κs =

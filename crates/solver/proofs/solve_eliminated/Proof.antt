@@ -1,50 +1,37 @@
--- `solver::solve_eliminated` meets its contract: the zero trial is judged, or what the last round leaves is kept.
+-- `solver::solve_eliminated` meets its contract: the zero trial is judged, or what the rounds leave is kept.
 -- Assumes nothing.
+use Prim.Native.Nat.{ℕ, _<_}
 use borrow.Author.Needs.{needs}
-use lib.IntN.{ℤ}
-use mathlib.Core.List.{List}
-use mathlib.Core.Path.{_≡_, refl, ap, _∙_}
+use mathlib.Core.Path.{_≡_, refl}
 use native.Mathlib.Omega.{arith}
-use Rattle.judge.specs.System.{System, system}
-use Rattle.solver.specs.Answers.{some-round}
-use Rattle.solver.specs.Outcomes.{solved-some, promised-also}
-use Rattle.solver.specs.Solution.{keptSolution}
+use Rattle.judge.specs.System.{system}
+use Rattle.solver.specs.Endings.{kept-solved}
+use Rattle.solver.specs.Outcomes.{promised-also}
+use Rattle.solver.specs.Ranking.{rankedFrom}
+use Rattle.solver.specs.Refinement.{progressFrom}
 use Rattle.solver.proofs.solve_eliminated.Statement.{statement}
 use Rattle.solver.proofs.solve_eliminated.Tie as tie
+
+some : (K : ℕ) → ¬ (K ≡ 0) → 0 < K
+some K h = omega arith
 
 returns : tie.Need-returns
 returns c =
     let e : c .before .before .before .before .before .before .args .rounds ≡ 0 = omega arith in
     rw e (record { number = refl; rounds = refl; trial = refl; judgement = c .judge .ensures })
 
-module _ (c : tie.After-refine) where
-  abbrev begun : tie.Start
-  begun = c .before .before .before .before .before
-
-  abbrev s′ : System
-  s′ = system (begun .args .n) (begun .args .coefficients .now) (begun .args .tolerances .now) (begun .args .right-hand-side .values) (begun .args .right-hand-side .tolerances)
-
-  -- the trial as the last round leaves it
-  abbrev last : List ℤ
-  last = c .refine .last .1 .1 .1 .1 .1 .1 .1 .1 .0
-
--- what is kept comes from a round
-keep-requires : tie.Need-keep-requires
-keep-requires c κs =
-    let d = c .before .before in
-    let g = begun d .args in
-    record {
-      small = begun d .pre .limits .small;
-      made = some-round (g .working .now) (g .order .now) (s′ d) (g .scale) (g .rounds) _ (d .refine .ensures) (omega arith);
-    }
-
 returns-2 : tie.Need-returns-2
 returns-2 c =
-    let d = c .before .before .before in
-    let g = begun d .args in
-    promised-also (c .keep .ensures (last d))
-    (ap (keptSolution (g .n)) (d .refine .ensures)
-    ∙ solved-some (s′ d) (g .scale) (g .working .now) (g .order .now) (g .rounds) (omega arith))
+    let d = c .before .before .before .before .before .before .before in
+    let i = d .before .before .before .before .before .before .before in
+    let g = i .before .args in
+    let last = d .refine .last .1 .1 .1 .1 .1 .1 .1 .1 in
+    let best = last .1 .1 .1 in
+    promised-also (c .keep .ensures)
+    (kept-solved (g .working .now) (g .order .now) (system (g .n) (g .coefficients .now) (g .tolerances .now) (g .right-hand-side .values) (g .right-hand-side .tolerances)) (g .scale) (g .rounds)
+    (progressFrom (d .refine .result) (last .0) (last .1 .0) (last .1 .1 .0))
+    (rankedFrom (d .refine .result .best) (best .0) (best .1 .0) (best .1 .1 .0))
+    (some (g .rounds) (i .if1 .left)) (d .refine .ensures .0) (d .refine .ensures .1 (some (g .rounds) (i .if1 .left))))
 
 pub solve-eliminated-spec : {M : Type 1} → statement M
 solve-eliminated-spec =
@@ -53,5 +40,5 @@ solve-eliminated-spec =
     (λ c κs. search needs)
     returns
     (λ c κs. search needs)
-    keep-requires
+    (λ c κs. search needs)
     returns-2)

@@ -13,10 +13,12 @@ use mir.Val.{SFits, toZ, ofZ}
 use native.Mathlib.Omega.{arith}
 use Rattle.limits.specs.Limits.{mostTanks}
 use Rattle.integers.specs.Size.{sfits-size}
-use Rattle.judge.specs.Judgement.{measurementFrom}
+use Rattle.fractions.specs.Fraction.{_over_}
+use Rattle.judge.specs.Judgement.{Judgement}
 use Rattle.judge.specs.Places.{Filling, filling-begun, filling-turn, filling-ended}
 use Rattle.judge.specs.System.{system}
 use Rattle.judge.specs.ZeroTrial.{zero-residuals}
+use Rattle.solver.specs.Refinement.{nothingSaid}
 use Rattle.solver.proofs.start.Statement.{statement}
 use Rattle.solver.proofs.start.Tie as tie
 
@@ -38,12 +40,17 @@ loop-again c =
     filling-turn (d .loop .inv) (omega arith) (omega arith) (e ∙ r)
 
 returns : tie.Need-returns Inv-loop μ-loop
-returns c A E =
-    let d = c .before in
-    let g = d .before .before .before .before .args in
-    ap (λ (R : List ℤ). record { within = true; rounds = 0; trial = replicate mostTanks (pos 0); measurement = measurementFrom 0 R (replicate mostTanks 0) })
-    (filling-ended (d .loop .inv) (omega arith)
-    ∙ zero-residuals (system (g .n) A E (g .t3 .values) (g .t3 .tolerances)) (g .scale))
+returns c =
+    let d = c .before .before in
+    let g = d .before .before .before .before .args in (
+      λ A E.
+          ap (λ (j : Judgement). record { within = true; rounds = 0; trial = replicate mostTanks (pos 0); judgement = j })
+          (c .nothing-said .ensures (d .loop .residuals) (replicate mostTanks 0)
+          ∙ ap (λ (R : List ℤ). nothingSaid R (replicate mostTanks 0))
+          (filling-ended (d .loop .inv) (omega arith)
+          ∙ zero-residuals (system (g .n) A E (g .t3 .values) (g .t3 .tolerances)) (g .scale))),
+      λ Y R T. ap (λ (j : Judgement). record { trial = Y; judgement = j; factor = 0 over 0 }) (c .nothing-said .ensures R T),
+    )
 
 pub start-spec : {M : Type 1} → statement M
 start-spec =
@@ -60,4 +67,5 @@ start-spec =
     (λ c. omega arith)
     (λ c. omega arith)
     loop-again
+    (λ c κs. search needs)
     returns)
