@@ -89,6 +89,13 @@ proper-base a zero h = absurd (omega arith)
 proper-base zero (suc b) h = refl
 proper-base (suc a) (suc b) h = refl
 
+-- anything but 0 over 0 is above every fraction with a factor, and equal to its like
+pub over-zero-above : (a c d : ℕ) → 0 < a → 0 < orderedDenominator c d → (c over d) ≺ (a over 0)
+over-zero-above a c d h l = rw (numerator-base a 0 h) (omega (arith, mul-pos {m = a} {n = orderedDenominator c d} h l))
+
+pub over-zero-alike : (a c : ℕ) → 0 < a → 0 < c → order (a over 0) (c over 0) ≡ Equal
+over-zero-alike a c h l = order-equal (a over 0) (c over 0) (rw (numerator-base a 0 h, numerator-base c 0 l) (omega arith))
+
 -- against u / v, whose denominator is not read anew: v a ≤ u b, from and to the order
 pub cross-from-base : (a b u v : ℕ) → a * v ≤ u * orderedDenominator a b → v * a ≤ u * b
 cross-from-base zero zero u v h = omega arith

@@ -4,14 +4,15 @@ use borrow.Author.Tests.{ne-eqb}
 use lib.Dec.{eqb}
 use lib.IntN.{ℤ, natAbs}
 use mathlib.Core.Bool.{Bool, true, false, not, _&&_}
-use mathlib.Core.Path.{_≡_, refl, sym, ap, _∙_}
+use mathlib.Core.Path.{_≡_, refl, sym, ap, ap₂, subst, _∙_}
 use native.Mathlib.Nat.{mul-pos}
 use native.Mathlib.Omega.{arith}
 use Rattle.limits.specs.Limits.{mostTanks}
 use Rattle.fractions.specs.FirstLaws.{first-below}
-use Rattle.fractions.specs.Fraction.{_≼_, orderedDenominator}
+use Rattle.fractions.specs.Fraction.{_over_, orderedDenominator, _≼_, _≺_, order}
 use Rattle.fractions.specs.Greatest.{greater}
-use Rattle.fractions.specs.Laws.{numerator-base}
+use Rattle.fractions.specs.Laws.{numerator-base, over-zero-above, over-zero-alike}
+use Rattle.fractions.specs.declared.Order.the-variants.{Equal}
 use Rattle.judge.specs.Judgement.{factor, noFactor, measurement, decidingPlace, judgement, decidingResidual, decidingReach, decidingFactor}
 use Rattle.judge.specs.System.{System, Trial}
 
@@ -62,3 +63,24 @@ module _ (s : System) where
       let j = judgement s t in
       let j′ = judgement s t′ in
       none-is t ∙ at-most-has-factor (decidingResidual j) (decidingResidual j′) (decidingReach j) (decidingReach j′) l (sym (none-is t′) ∙ e)
+
+  -- a trial without a factor ranks behind one with a factor, and no two without are told apart
+  pub without-factor-above : (t t′ : Trial) → judgement s t .none ≡ true → judgement s t′ .none ≡ false
+      → decidingFactor (judgement s t′) ≺ decidingFactor (judgement s t)
+  without-factor-above t t′ e f =
+      let j = judgement s t in
+      let j′ = judgement s t′ in
+      let i = improper (natAbs (decidingResidual j)) (decidingReach j) (sym (none-is t) ∙ e) in
+      subst (λ (x : ℕ). decidingFactor j′ ≺ (natAbs (decidingResidual j) over x)) (sym (i .1))
+      (over-zero-above (natAbs (decidingResidual j)) (natAbs (decidingResidual j′)) (decidingReach j′) (i .0)
+      (proper (natAbs (decidingResidual j′)) (decidingReach j′) (sym (none-is t′) ∙ f)))
+
+  pub without-factor-alike : (t t′ : Trial) → judgement s t .none ≡ true → judgement s t′ .none ≡ true
+      → order (decidingFactor (judgement s t)) (decidingFactor (judgement s t′)) ≡ Equal
+  without-factor-alike t t′ e f =
+      let j = judgement s t in
+      let j′ = judgement s t′ in
+      let i = improper (natAbs (decidingResidual j)) (decidingReach j) (sym (none-is t) ∙ e) in
+      let i′ = improper (natAbs (decidingResidual j′)) (decidingReach j′) (sym (none-is t′) ∙ f) in
+      ap₂ (λ (x y : ℕ). order (natAbs (decidingResidual j) over x) (natAbs (decidingResidual j′) over y)) (i .1) (i′ .1)
+      ∙ over-zero-alike (natAbs (decidingResidual j)) (natAbs (decidingResidual j′)) (i .0) (i′ .0)

@@ -21,7 +21,9 @@ use integers::magnitude;
 use integers::scaled;
 use judge::Conclusion;
 use judge::RightHandSide;
+use judge::conclude;
 use judge::judge;
+use judge::measure;
 use limits::MOST_COEFFICIENTS;
 use limits::MOST_TANKS;
 use limits::TRIAL_LIMIT;
@@ -222,7 +224,7 @@ pub fn round<'a>(
 {
     type_ranges(*coefficients, right_hand_side);
     if update_trial(n, working, order, residuals, trial) {
-        let conclusion = judge(
+        let unmet = measure(
             n,
             scale,
             coefficients,
@@ -232,6 +234,7 @@ pub fn round<'a>(
             residuals,
             reaches,
         );
+        let conclusion = conclude(n, unmet, residuals, reaches);
         let best = rank(
             state.rounds,
             state.best,

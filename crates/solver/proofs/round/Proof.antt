@@ -2,10 +2,11 @@
 -- beside the best. Assumes nothing.
 use Prim.Native.Nat.{ℕ}
 use borrow.Author.Needs.{needs}
-use mathlib.Core.Path.{_≡_, refl, ap}
+use mathlib.Core.Path.{_≡_, refl, ap, _∙_}
 use native.Mathlib.Omega.{arith}
 use Rattle.judge.specs.Deciding.{decides-place}
-use Rattle.judge.specs.Judgement.{Judgement}
+use Rattle.judge.specs.Judgement.{Judgement, judgementFrom, concluded, judgement}
+use Rattle.judge.specs.Laws.{judgement-concluded}
 use Rattle.judge.specs.System.{System, system, trial}
 use Rattle.solver.specs.Laws.{round-on, round-refused}
 use Rattle.solver.specs.Refinement.{Update, update, updated, Progress, progressFrom}
@@ -40,23 +41,37 @@ update-trial-requires c κs =
     let b = c .before .before .before .before in
     updatable (b .args .working .now) (b .args .order .now) (s′ b) (D′ b) (p′ b) (b .pre) (c .before .before .type-ranges .ensures)
 
+module _ (c : tie.After-conclude) where
+  abbrev updated′ : tie.After-update-trial
+  updated′ = c .before .before .before .before .before .before .before .before
+
+  abbrev begun′ : tie.Start
+  begun′ = begun updated′
+
+  -- what is said of the next trial is its judgement
+  said-is : judgementFrom (c .conclude .result) (c .before .before .before .measure .last .1 .1 .1 .1 .1 .1 .0) (c .before .before .before .measure .last .1 .1 .1 .1 .1 .1 .1 .0)
+      ≡ judgement (s′ begun′) (trial (begun′ .args .n) (D′ begun′) (next updated′ .trial))
+  said-is =
+      c .conclude .ensures
+      ∙ ap (concluded (begun′ .args .n)) (c .before .before .before .measure .ensures)
+      ∙ judgement-concluded (s′ begun′) (trial (begun′ .args .n) (D′ begun′) (next updated′ .trial))
+
 -- the row that decides is one of the eight places
 rank-requires : tie.Need-rank-requires
 rank-requires c κs =
     let j = c .before .before .before .before .before .before in
-    let d = j .before .before .before .before .before in
-    let b = begun d in
-    rw (ap (λ (x : Judgement). x .decides) (j .judge .ensures)) (decides-place (s′ b) (trial (b .args .n) (D′ b) (next d .trial)) (b .pre .startable .limits .small))
+    let b = begun′ j in
+    rw (ap (λ (x : Judgement). x .decides) (said-is j)) (decides-place (s′ b) (trial (b .args .n) (D′ b) (next (updated′ j) .trial)) (b .pre .startable .limits .small))
 
-counted : tie.Need-add-t34
-counted c = omega (arith, begun (c .before .before .before .before .before .before .before .before .before .before .before .before .before) .pre .countable)
+counted : tie.Need-add-t37
+counted c = omega (arith, begun′ (c .before .before .before .before .before .before .before .before) .pre .countable)
 
 returns : tie.Need-returns
 returns c =
     let j = c .before .before .before .before .before .before .before .before in
-    let d = j .before .before .before .before .before in
+    let d = updated′ j in
     let b = begun d in (
-      round-on (b .args .working .now) (b .args .order .now) (s′ b) (D′ b) (p′ b) (next d) (next-is d) _ (j .before .before .before .before .if1 .taken) (j .judge .ensures),
+      round-on (b .args .working .now) (b .args .order .now) (s′ b) (D′ b) (p′ b) (next d) (next-is d) _ (j .before .before .before .before .before .before .before .if1 .taken) (said-is j),
       c .before .rank .ensures,
     )
 
@@ -74,6 +89,7 @@ round-spec =
     (tie.spec
     (λ c κs. search needs)
     update-trial-requires
+    (λ c κs. search needs)
     (λ c κs. search needs)
     rank-requires
     counted
