@@ -33,9 +33,13 @@ pub record RankedTrial : Type 0 where
 abbrev pub rankedTrial : List ℤ → Judgement → RankedTrial
 rankedTrial Y j = record { trial = Y; judgement = j; factor = decidingFactor j }
 
--- as code holds it: the lists Y, R and T stand beside what is kept of the best trial
+-- as code holds it: its lists Y, R and T stand beside what is kept of the best trial
 abbrev pub rankedFrom : BestTrial → List ℤ → List ℤ → List ℕ → RankedTrial
 rankedFrom b Y R T = record { trial = Y; judgement = judgementFrom (b .conclusion) R T; factor = b .numerator over b .denominator }
+
+-- they are those of the last trial where it is that one, and lists of their own otherwise
+abbrev pub bestFrom : BestTrial → List ℤ → List ℤ → List ℕ → List ℤ → List ℤ → List ℕ → RankedTrial
+bestFrom b Y R T BY BR BT = rankedFrom b (cond (b .last) Y BY) (cond (b .last) R BR) (cond (b .last) T BT)
 
 -- before the first round no trial is ranked, whatever stands in the best one's place
 abbrev pub unranked : List ℤ → List ℤ → List ℕ → RankedTrial

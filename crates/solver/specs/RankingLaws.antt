@@ -11,10 +11,31 @@ use Rattle.fractions.specs.Least.{less, firstLeast, FirstLeast}
 use Rattle.fractions.specs.RankLaws.{first-least-is}
 use Rattle.judge.specs.Judgement.{Judgement, decidingFactor}
 use Rattle.judge.specs.System.{System}
-use Rattle.solver.specs.Ranking.{factorOfRound, bestRound, RankedTrial, rankedTrial, takesPlace, better, ranked, bestAfter, bestOfRounds}
+use Rattle.solver.specs.Ranking.{factorOfRound, bestRound, RankedTrial, rankedTrial, rankedFrom, bestFrom, takesPlace, better, ranked, bestAfter, bestOfRounds}
+use Rattle.solver.specs.declared.BestTrial.{BestTrial}
 use Rattle.solver.specs.Refinement.{Progress, judgedProgress, ended, trialOfRound, judgementOfRound}
 
--- one more trial, unmet, as code finds it: its factor f, and whether it takes the best one's place
+-- ---- where the best trial stands
+
+-- in lists of its own where it is not the last
+pub not-last : (b : BestTrial) (Y R : List ℤ) (T : List ℕ) (BY BR : List ℤ) (BT : List ℕ) → b .last ≡ false → bestFrom b Y R T BY BR BT ≡ rankedFrom b BY BR BT
+not-last b Y R T BY BR BT e = ap (λ (t : Bool). rankedFrom b (cond t Y BY) (cond t R BR) (cond t T BT)) e
+
+-- and so where it is laid aside before the last gives way to the next
+pub laid-aside : (b : BestTrial) (Y R : List ℤ) (T : List ℕ) (BY BR : List ℤ) (BT : List ℕ) {SY SR : List ℤ} {ST : List ℕ}
+    → SY ≡ cond (b .last) Y BY → SR ≡ cond (b .last) R BR → ST ≡ cond (b .last) T BT → rankedFrom b SY SR ST ≡ bestFrom b Y R T BY BR BT
+laid-aside b Y R T BY BR BT y r t = λ i. rankedFrom b (y i) (r i) (t i)
+
+-- ---- one more trial
+
+pub met-not-ranked : (k : ℕ) (b : RankedTrial) (Y : List ℤ) (j : Judgement) → j .met ≡ true → b ≡ ranked k b Y j
+met-not-ranked k b Y j e = go (j .met) e
+  where
+    go : (t : Bool) → t ≡ true → b ≡ cond t b (better k b (rankedTrial Y j))
+    go true p = refl
+    go false p = absurd (true≢false (sym p))
+
+-- unmet, as code finds it: its factor f, and whether it takes the best one's place
 module _ (k : ℕ) (b : RankedTrial) (Y : List ℤ) (j : Judgement) (f : Fraction) (m : j .met ≡ false) (e : f ≡ decidingFactor j) where
   pub not-taken : takesPlace k (b .factor) f ≡ false → b ≡ ranked k b Y j
   not-taken q = go (j .met) (takesPlace k (b .factor) (decidingFactor j)) m (ap (takesPlace k (b .factor)) (sym e) ∙ q)

@@ -2,7 +2,7 @@
 // of them kept.
 ghost use Prim.Native.Nat.{ℕ, _<_, _≤_};
 ghost use lib.IntN.{ℤ};
-ghost use mathlib.Core.Bool.{true, false};
+ghost use mathlib.Core.Bool.{true, false, cond};
 ghost use mathlib.Core.List.{List};
 ghost use mathlib.Core.Path.{_≡_};
 ghost use Rattle.limits.specs.Limits.{mostTanks};
@@ -12,7 +12,7 @@ ghost use Rattle.judge.specs.System.{system};
 ghost use Rattle.elimination.specs.Claims.{Permutation};
 ghost use Rattle.solver.specs.Limits.{Limits, Ranges, FiguresCorrectable, Updatable, Ready, Startable};
 ghost use Rattle.solver.specs.Refinement.{permuted, substituted, update, correctedFrom, corrected, nothingSaid, Progress, progressFrom, round as roundOf, endedBy, refined, start as startOf};
-ghost use Rattle.solver.specs.Ranking.{rankedFrom, unranked, takesPlace, ranked, bestAfter, bestOfRounds};
+ghost use Rattle.solver.specs.Ranking.{rankedFrom, bestFrom, unranked, takesPlace, ranked, bestAfter, bestOfRounds};
 ghost use Rattle.solver.specs.Solution.{solutionFrom, refusedSolution, keptOf, solved, solution, SolutionIs};
 use elimination::Elimination;
 use elimination::eliminate;
@@ -91,9 +91,10 @@ fn type_ranges(coefficients: [i16; MOST_COEFFICIENTS], right_hand_side: RightHan
     ensures { λ r. ⌜ Ranges coefficients («right_hand_side» .values) ⌝ }
 {}
 
-// What is kept of the best trial so far, beside that trial with its residuals and reaches: what is said of it, and the factor of the row that decides,
-// as a fraction: by it trials are ranked.
+// What is kept of the best trial so far: whether it is the last one, what is said of it, and the factor of the row that decides, as a fraction, by which
+// trials are ranked. Its figures, residuals and reaches stand in the lists of the last trial where it is that one, and otherwise in lists of their own.
 pub struct BestTrial {
+    pub last: bool,
     pub conclusion: Conclusion,
     pub numerator: u64,
     pub denominator: u64,
@@ -132,7 +133,7 @@ pub fn start(
 ) -> RefinementState
     requires { ⌜ n ≤ mostTanks ⌝ }
     ensures progress { λ r. ⌜ ((A : List ℤ) (E : List ℕ) → progressFrom r (now (trial .exit)) (now (residuals .exit)) (now (reaches .exit)) ≡ startOf (system n A E («right_hand_side» .values) («right_hand_side» .tolerances)) scale) ⌝ }
-    ensures best { λ r. ⌜ ((Y : List ℤ) (R : List ℤ) (T : List ℕ) → rankedFrom (r .best) Y R T ≡ unranked Y R T) ⌝ }
+    ensures best { λ r. ⌜ (r .best .last ≡ false) × ((Y : List ℤ) (R : List ℤ) (T : List ℕ) → rankedFrom (r .best) Y R T ≡ unranked Y R T) ⌝ }
 {
     *trial = [0i32; MOST_TANKS];
     *residuals = [0i64; MOST_TANKS];
@@ -142,6 +143,7 @@ pub fn start(
     }
     let conclusion = nothing_said();
     let best = BestTrial {
+        last: false,
         conclusion,
         numerator: 0,
         denominator: 0,
@@ -165,43 +167,71 @@ fn takes_place(others: usize, best: BestTrial, numerator: u64, denominator: u64)
     }
 }
 
+// The best trial where it is not the last.
+fn earlier(best: BestTrial) -> BestTrial
+    ensures { λ r. ⌜ (r .last ≡ false) × ((Y : List ℤ) (R : List ℤ) (T : List ℕ) → rankedFrom r Y R T ≡ rankedFrom best Y R T) ⌝ }
+{
+    let conclusion = best.conclusion;
+    BestTrial {
+        last: false,
+        conclusion,
+        numerator: best.numerator,
+        denominator: best.denominator,
+    }
+}
+
 // The best trial after one more, behind so many others. Only an unmet one is ranked; a met one ends the work.
 fn rank<'a>(
     others: usize,
     best: BestTrial,
     conclusion: Conclusion,
-    trial: &'a [i32; MOST_TANKS],
     residuals: &'a [i64; MOST_TANKS],
     reaches: &'a [u64; MOST_TANKS],
-    best_trial: &mut [i32; MOST_TANKS],
-    best_residuals: &mut [i64; MOST_TANKS],
-    best_reaches: &mut [u64; MOST_TANKS],
 ) -> BestTrial
     requires { ⌜ (1 ≤ conclusion .decides) × (conclusion .decides ≤ mostTanks) ⌝ }
-    ensures { λ r. ⌜ rankedFrom r (now («best_trial» .exit)) (now («best_residuals» .exit)) (now («best_reaches» .exit)) ≡ ranked others (rankedFrom best (now («best_trial» .entry)) (now («best_residuals» .entry)) (now («best_reaches» .entry))) (now (trial .entry)) (judgementFrom conclusion (now (residuals .entry)) (now (reaches .entry))) ⌝ }
+    ensures { λ r. ⌜ ((Y BY BR : List ℤ) (BT : List ℕ) → bestFrom r Y (now (residuals .entry)) (now (reaches .entry)) BY BR BT ≡ ranked others (rankedFrom best BY BR BT) Y (judgementFrom conclusion (now (residuals .entry)) (now (reaches .entry)))) ⌝ }
 {
     if conclusion.met {
-        return best;
+        return earlier(best);
     }
     let at = conclusion.decides - 1;
     let numerator = magnitude(residuals[at]);
     let denominator = reaches[at];
     if takes_place(others, best, numerator, denominator) {
-        *best_trial = *trial;
-        *best_residuals = *residuals;
-        *best_reaches = *reaches;
         BestTrial {
+            last: true,
             conclusion,
             numerator,
             denominator,
         }
     } else {
-        best
+        earlier(best)
+    }
+}
+
+// Where it is wanted, the figures, residuals and reaches of one trial in the place of another's.
+fn copy_where<'a>(
+    wanted: bool,
+    trial: &'a [i32; MOST_TANKS],
+    residuals: &'a [i64; MOST_TANKS],
+    reaches: &'a [u64; MOST_TANKS],
+    to_trial: &mut [i32; MOST_TANKS],
+    to_residuals: &mut [i64; MOST_TANKS],
+    to_reaches: &mut [u64; MOST_TANKS],
+)
+    ensures trial { λ r. ⌜ now («to_trial» .exit) ≡ cond wanted (now (trial .entry)) (now («to_trial» .entry)) ⌝ }
+    ensures residuals { λ r. ⌜ now («to_residuals» .exit) ≡ cond wanted (now (residuals .entry)) (now («to_residuals» .entry)) ⌝ }
+    ensures reaches { λ r. ⌜ now («to_reaches» .exit) ≡ cond wanted (now (reaches .entry)) (now («to_reaches» .entry)) ⌝ }
+{
+    if wanted {
+        *to_trial = *trial;
+        *to_residuals = *residuals;
+        *to_reaches = *reaches;
     }
 }
 
 // One round: the next trial in place of the last, judged, and ranked where it is unmet; or refusal 9, where residuals, reaches and the best trial stay
-// as they are and the trial is as far as it was formed.
+// as they are and the trial is as far as it was formed. Where the last trial is the best, it is laid aside first.
 pub fn round<'a>(
     n: usize,
     scale: u16,
@@ -220,9 +250,19 @@ pub fn round<'a>(
 ) -> RefinementState
     requires { ⌜ Ready (now working) (now order) (system n (now coefficients) (now tolerances) («right_hand_side» .values) («right_hand_side» .tolerances)) scale (progressFrom state (now trial) (now residuals) (now reaches)) ⌝ }
     ensures progress { λ r. ⌜ progressFrom r (now (trial .exit)) (now (residuals .exit)) (now (reaches .exit)) ≡ roundOf (now (working .entry)) (now (order .entry)) (system n (now (coefficients .entry)) (now (tolerances .entry)) («right_hand_side» .values) («right_hand_side» .tolerances)) scale (progressFrom state (now (trial .entry)) (now (residuals .entry)) (now (reaches .entry))) ⌝ }
-    ensures best { λ r. ⌜ rankedFrom (r .best) (now («best_trial» .exit)) (now («best_residuals» .exit)) (now («best_reaches» .exit)) ≡ bestAfter (state .rounds) (rankedFrom (state .best) (now («best_trial» .entry)) (now («best_residuals» .entry)) (now («best_reaches» .entry))) (progressFrom r (now (trial .exit)) (now (residuals .exit)) (now (reaches .exit))) ⌝ }
+    ensures best { λ r. ⌜ bestFrom (r .best) (now (trial .exit)) (now (residuals .exit)) (now (reaches .exit)) (now («best_trial» .exit)) (now («best_residuals» .exit)) (now («best_reaches» .exit)) ≡ bestAfter (state .rounds) (bestFrom (state .best) (now (trial .entry)) (now (residuals .entry)) (now (reaches .entry)) (now («best_trial» .entry)) (now («best_residuals» .entry)) (now («best_reaches» .entry))) (progressFrom r (now (trial .exit)) (now (residuals .exit)) (now (reaches .exit))) ⌝ }
 {
     type_ranges(*coefficients, right_hand_side);
+    let former = state.best;
+    copy_where(
+        former.last,
+        trial,
+        residuals,
+        reaches,
+        best_trial,
+        best_residuals,
+        best_reaches,
+    );
     if update_trial(n, working, order, residuals, trial) {
         let unmet = measure(
             n,
@@ -235,17 +275,7 @@ pub fn round<'a>(
             reaches,
         );
         let conclusion = conclude(n, unmet, residuals, reaches);
-        let best = rank(
-            state.rounds,
-            state.best,
-            conclusion,
-            trial,
-            residuals,
-            reaches,
-            best_trial,
-            best_residuals,
-            best_reaches,
-        );
+        let best = rank(state.rounds, former, conclusion, residuals, reaches);
         RefinementState {
             within: true,
             rounds: state.rounds + 1,
@@ -254,7 +284,7 @@ pub fn round<'a>(
         }
     } else {
         let conclusion = state.conclusion;
-        let best = state.best;
+        let best = earlier(former);
         RefinementState {
             within: false,
             rounds: state.rounds,
@@ -294,7 +324,7 @@ fn refine<'a>(
 ) -> RefinementState
     requires { ⌜ Startable (now working) (now order) n scale ⌝ }
     ensures progress { λ r. ⌜ progressFrom r (now (trial .exit)) (now (residuals .exit)) (now (reaches .exit)) ≡ refined (now (working .entry)) (now (order .entry)) (system n (now (coefficients .entry)) (now (tolerances .entry)) («right_hand_side» .values) («right_hand_side» .tolerances)) scale rounds (startOf (system n (now (coefficients .entry)) (now (tolerances .entry)) («right_hand_side» .values) («right_hand_side» .tolerances)) scale) ⌝ }
-    ensures best { λ r. ⌜ (0 < rounds → r .within ≡ true → r .conclusion .met ≡ false → rankedFrom (r .best) (now («best_trial» .exit)) (now («best_residuals» .exit)) (now («best_reaches» .exit)) ≡ bestOfRounds (now (working .entry)) (now (order .entry)) (system n (now (coefficients .entry)) (now (tolerances .entry)) («right_hand_side» .values) («right_hand_side» .tolerances)) scale rounds) ⌝ }
+    ensures best { λ r. ⌜ (0 < rounds → r .within ≡ true → r .conclusion .met ≡ false → bestFrom (r .best) (now (trial .exit)) (now (residuals .exit)) (now (reaches .exit)) (now («best_trial» .exit)) (now («best_residuals» .exit)) (now («best_reaches» .exit)) ≡ bestOfRounds (now (working .entry)) (now (order .entry)) (system n (now (coefficients .entry)) (now (tolerances .entry)) («right_hand_side» .values) («right_hand_side» .tolerances)) scale rounds) ⌝ }
 {
     let mut state = start(n, scale, right_hand_side, trial, residuals, reaches);
     let mut left = rounds;
@@ -344,8 +374,8 @@ pub fn refused(refusal: Refusal, rounds: usize) -> Kept
     }
 }
 
-// What is kept after the last round: its trial where that is met, and otherwise the best, whose figures take the places of the last. Nothing is judged
-// again.
+// What is kept after the last round: its trial where that is met, and otherwise the best, whose figures take the places of the last where it is another.
+// Nothing is judged again.
 pub fn keep<'a>(
     state: RefinementState,
     best_trial: &'a [i32; MOST_TANKS],
@@ -355,7 +385,7 @@ pub fn keep<'a>(
     residuals: &mut [i64; MOST_TANKS],
     reaches: &mut [u64; MOST_TANKS],
 ) -> Kept
-    ensures { λ r. ⌜ SolutionIs (solutionFrom r (now (trial .exit)) (now (residuals .exit)) (now (reaches .exit))) (keptOf (progressFrom state (now (trial .entry)) (now (residuals .entry)) (now (reaches .entry))) (rankedFrom (state .best) (now («best_trial» .entry)) (now («best_residuals» .entry)) (now («best_reaches» .entry)))) ⌝ }
+    ensures { λ r. ⌜ SolutionIs (solutionFrom r (now (trial .exit)) (now (residuals .exit)) (now (reaches .exit))) (keptOf (progressFrom state (now (trial .entry)) (now (residuals .entry)) (now (reaches .entry))) (bestFrom (state .best) (now (trial .entry)) (now (residuals .entry)) (now (reaches .entry)) (now («best_trial» .entry)) (now («best_residuals» .entry)) (now («best_reaches» .entry)))) ⌝ }
 {
     if state.within {
         let status = Status::Accepted;
@@ -367,10 +397,16 @@ pub fn keep<'a>(
                 conclusion: last,
             };
         }
-        *trial = *best_trial;
-        *residuals = *best_residuals;
-        *reaches = *best_reaches;
         let best = state.best;
+        copy_where(
+            !best.last,
+            best_trial,
+            best_residuals,
+            best_reaches,
+            trial,
+            residuals,
+            reaches,
+        );
         let conclusion = best.conclusion;
         Kept {
             status,

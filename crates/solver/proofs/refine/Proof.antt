@@ -7,7 +7,7 @@ use mathlib.Core.List.{List}
 use mathlib.Core.Path.{_≡_, sym, _∙_}
 use native.Mathlib.Omega.{arith}
 use Rattle.judge.specs.System.{System, system}
-use Rattle.solver.specs.Ranking.{RankedTrial, rankedFrom}
+use Rattle.solver.specs.Ranking.{RankedTrial, bestFrom}
 use Rattle.solver.specs.Refinement.{Progress, progressFrom, start}
 use Rattle.solver.specs.RoundsMade.{RoundsMade, none-made, all-made, one-more-made, ended-made, ended-met}
 use Rattle.solver.proofs.refine.Statement.{statement}
@@ -16,7 +16,7 @@ use Rattle.solver.proofs.refine.Tie as tie
 abbrev Inv-loop : tie.InvT-loop
 Inv-loop n scale coefficients tolerances right-hand-side working order rounds trial₀ residuals₀ reaches₀ best-trial₀ best-residuals₀ best-reaches₀ state₀ left₀ trial residuals reaches best-trial best-residuals best-reaches state left =
     RoundsMade working order (system n coefficients tolerances (right-hand-side .values) (right-hand-side .tolerances)) scale rounds left
-    (progressFrom state trial residuals reaches) (rankedFrom (state .best) best-trial best-residuals best-reaches)
+    (progressFrom state trial residuals reaches) (bestFrom (state .best) trial residuals reaches best-trial best-residuals best-reaches)
 
 abbrev μ-loop : tie.MeasureT-loop
 μ-loop n scale coefficients tolerances right-hand-side working order rounds trial₀ residuals₀ reaches₀ best-trial₀ best-residuals₀ best-reaches₀ state₀ left₀ trial residuals reaches best-trial best-residuals best-reaches state left =
@@ -46,7 +46,7 @@ module _ (c : tie.At-loop Inv-loop μ-loop) where
   p′ = progressFrom (c .loop .state) (c .loop .trial) (c .loop .residuals) (c .loop .reaches)
 
   abbrev b′ : RankedTrial
-  b′ = rankedFrom (c .loop .state .best) (c .loop .best-trial) (c .loop .best-residuals) (c .loop .best-reaches)
+  b′ = bestFrom (c .loop .state .best) (c .loop .trial) (c .loop .residuals) (c .loop .reaches) (c .loop .best-trial) (c .loop .best-residuals) (c .loop .best-reaches)
 
 module _ (c : tie.After-round Inv-loop μ-loop) where
   abbrev head : tie.At-loop Inv-loop μ-loop

@@ -7,7 +7,7 @@ use native.Mathlib.Omega.{arith}
 use Rattle.judge.specs.System.{system}
 use Rattle.solver.specs.Endings.{kept-solved}
 use Rattle.solver.specs.Outcomes.{promised-also}
-use Rattle.solver.specs.Ranking.{rankedFrom}
+use Rattle.solver.specs.Ranking.{bestFrom}
 use Rattle.solver.specs.Refinement.{progressFrom}
 use Rattle.solver.proofs.solve_eliminated.Statement.{statement}
 use Rattle.solver.proofs.solve_eliminated.Tie as tie
@@ -30,7 +30,7 @@ returns-2 c =
     promised-also (c .keep .ensures)
     (kept-solved (g .working .now) (g .order .now) (system (g .n) (g .coefficients .now) (g .tolerances .now) (g .right-hand-side .values) (g .right-hand-side .tolerances)) (g .scale) (g .rounds)
     (progressFrom (d .refine .result) (last .0) (last .1 .0) (last .1 .1 .0))
-    (rankedFrom (d .refine .result .best) (best .0) (best .1 .0) (best .1 .1 .0))
+    (bestFrom (d .refine .result .best) (last .0) (last .1 .0) (last .1 .1 .0) (best .0) (best .1 .0) (best .1 .1 .0))
     (some (g .rounds) (i .if1 .left)) (d .refine .ensures .0) (d .refine .ensures .1 (some (g .rounds) (i .if1 .left))))
 
 pub solve-eliminated-spec : {M : Type 1} → statement M

@@ -6,7 +6,7 @@ use lib.IntN.{ℤ, pos, _*ℤ_}
 use lib.ListN.{getD, replicate}
 use mathlib.Core.Bool.{true}
 use mathlib.Core.List.{List}
-use mathlib.Core.Path.{_≡_, ap, _∙_}
+use mathlib.Core.Path.{_≡_, refl, ap, _∙_}
 use mir.Facts.{toZ-ofZ}
 use mir.Syntax.{w32, w64}
 use mir.Val.{SFits, toZ, ofZ}
@@ -49,7 +49,7 @@ returns c =
           ∙ ap (λ (R : List ℤ). nothingSaid R (replicate mostTanks 0))
           (filling-ended (d .loop .inv) (omega arith)
           ∙ zero-residuals (system (g .n) A E (g .t3 .values) (g .t3 .tolerances)) (g .scale))),
-      λ Y R T. ap (λ (j : Judgement). record { trial = Y; judgement = j; factor = 0 over 0 }) (c .nothing-said .ensures R T),
+      (refl, λ Y R T. ap (λ (j : Judgement). record { trial = Y; judgement = j; factor = 0 over 0 }) (c .nothing-said .ensures R T)),
     )
 
 pub start-spec : {M : Type 1} → statement M
