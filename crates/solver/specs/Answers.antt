@@ -1,6 +1,6 @@
 -- What holds of every solution: its trial is within its limits and an answer is judged, its rounds are those that were made, which trial is kept, and
 -- refusals 8 and 9 have their conditions. Assumes nothing.
-use Prim.Native.Nat.{ℕ, suc, _<_, _≤_}
+use Prim.Native.Nat.{ℕ, suc, _≤_}
 use lib.IntN.{ℤ}
 use lib.ListN.{length}
 use mathlib.Core.Bool.{false≢true}

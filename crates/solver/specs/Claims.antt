@@ -1,6 +1,6 @@
 -- Definitions only.
 -- What is claimed of every solution, in the words of its laws. Rounds are counted from 1.
-use Prim.Native.Nat.{ℕ, suc, _<_, _≤_}
+use Prim.Native.Nat.{ℕ, _<_, _≤_}
 use lib.IntN.{ℤ}
 use mathlib.Core.Bool.{true, false}
 use mathlib.Core.List.{List}

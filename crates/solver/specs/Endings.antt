@@ -1,5 +1,5 @@
 -- How the rounds end, over the trials of the rounds: the first that is met, the first outside its limits, or none of either. Assumes nothing.
-use Prim.Native.Nat.{ℕ, zero, suc, _+_, _-_, _<_, _≤_}
+use Prim.Native.Nat.{ℕ, zero, suc, _+_, _<_}
 use lib.IntN.{ℤ, pos}
 use lib.ListN.{replicate}
 use mathlib.Core.Bool.{Bool, true, false, false≢true, true≢false, cond}
