@@ -17,7 +17,7 @@ use Rattle.judge.specs.Laws.{unmet-le, deciding-below}
 use Rattle.judge.specs.System.{System, Trial, row, trial, residual, reach}
 use Rattle.judge.specs.Theorem.{justified}
 use Rattle.solver.specs.Answers.{answer, rounds, kept-trial}
-use Rattle.solver.specs.Claims.{KeptAnswer, KeptTrial}
+use Rattle.solver.specs.Claims.{KeptAnswer, KeptOfRounds}
 use Rattle.solver.specs.Sizes.{residual-le}
 use Rattle.solver.specs.Solution.{Solution}
 use Rattle.outcome.specs.CallResult.{checkRoom, callResult}
@@ -60,11 +60,11 @@ module _ (c : Case) (g : Good c) where
       }
 
 -- which trial is the answer of a condition that brings none
-kept-condition : (s : System) (D k : ℕ) (Y : List ℤ) → 1 ≤ k → conditionSolution s D k Y .status ≡ Accepted → KeptTrial s D k (conditionSolution s D k Y)
+kept-condition : (s : System) (D k : ℕ) (Y : List ℤ) → 1 ≤ k → conditionSolution s D k Y .status ≡ Accepted → KeptOfRounds s D k (conditionSolution s D k Y)
 kept-condition s D zero Y l = absurd (omega arith)
 kept-condition s D (suc k) Y l = kept-trial s D (suc k) l
 
-pub kept-case : (c : Case) → caseSolution c .status ≡ Accepted → 1 ≤ c .rounds → KeptTrial (systemOf c) (scaleOf (c .exponent)) (c .rounds) (caseSolution c)
+pub kept-case : (c : Case) → caseSolution c .status ≡ Accepted → 1 ≤ c .rounds → KeptOfRounds (systemOf c) (scaleOf (c .exponent)) (c .rounds) (caseSolution c)
 unfolding caseSolution
 kept-case c e l = kept-condition (systemOf c) (scaleOf (c .exponent)) (c .rounds) (c .Y) l e
 
@@ -101,13 +101,14 @@ module _ (s : System) (D rounds : ℕ) (Y : List ℤ) (h : 0 < s .n) (k : s .n �
       justified s (recordedTrial (s .n) D at bytes) h (recordedFinding (s .n) at bytes)
       (agrees-with t (recordedAnswer at bytes) (λ j l. sym (answered j l)) s (recordedFinding (s .n) at bytes) agreeing)
 
-  -- and the condition is finished, by whatever kept answer has those figures and rounds
+  -- and the condition is finished, by whatever kept answer has those figures, rounds and verdict
   pub finished-condition : (kept : Solution) → ((j : ℕ) → j < s .n → getD Y j (pos 0) ≡ getD (kept .trial) j (pos 0)) → rounds ≡ kept .rounds
-      → Finished s D kept at bytes
-  finished-condition kept same e =
+      → judgement s t .met ≡ kept .judgement .met → Finished s D kept at bytes
+  finished-condition kept same e m =
       record {
         answer = λ j l. answered j l ∙ same j l;
         rounds = recorded-rounds c ∙ e;
+        met = recorded-met c ∙ m;
         justified = condition-justified;
       }
 
@@ -132,7 +133,7 @@ module _ (c : Case) (g : Good c) where
       subst (λ (j : Judgement). Finished (systemOf c) D′ (caseSolution c) 0 (recordOf (c .n) (a .rounds) (a .trial) j)) (sym (placed-answer c g .judgement-is e))
       (finished-condition (systemOf c) D′ (a .rounds) (a .trial) (omega (arith, g .limits .least)) (g .limits .small) fits-figure fits-residual
       (reach-le c g (a .trial) (placed-answer c g .figures)) (record-holds (c .n) (a .rounds) (a .trial) _) (caseSolution c)
-      (λ j l. getD-padded (pos 0) mostTanks (caseSolution c .trial) j) refl)
+      (λ j l. getD-padded (pos 0) mostTanks (caseSolution c .trial) j) refl (ap (λ (j : Judgement). j .met) (sym (placed-answer c g .judgement-is e))))
 
 -- ---- the call
 

@@ -3,7 +3,7 @@
 use Prim.Native.Nat.{ℕ, suc, _≤_}
 use lib.IntN.{ℤ}
 use lib.ListN.{length}
-use mathlib.Core.Bool.{false≢true}
+use mathlib.Core.Bool.{true≢false}
 use mathlib.Core.List.{List}
 use mathlib.Core.Path.{_≡_, refl, sym, ap, _∙_}
 use native.Mathlib.Omega.{arith}
@@ -17,62 +17,67 @@ use Rattle.elimination.specs.Outcome.{outcome}
 use Rattle.elimination.specs.OutcomeLaws.{zero-pivot-column, column-zero-pivot}
 use Rattle.elimination.specs.Steps.{eliminated}
 use Rattle.elimination.specs.declared.Elimination.{Elimination}
-use Rattle.elimination.specs.declared.Elimination.the-variants.{Complete, ZeroPivot as Stopped}
+use Rattle.elimination.specs.declared.Elimination.the-variants as E
 use Rattle.outcome.specs.Outcome.{statusNumber}
+use Rattle.outcome.specs.declared.Refusal.{Refusal}
 use Rattle.outcome.specs.declared.Refusal.the-variants.{ZeroPivot, OutsideRange}
 use Rattle.outcome.specs.declared.Status.the-variants.{Accepted, Refused}
-use Rattle.solver.specs.Claims.{KeptAnswer, Rounds, UnmetBefore, roundTrial, BestRound, KeptTrial, ZeroPivotFound, OutsideRangeFound}
+use Rattle.solver.specs.Claims.{KeptAnswer, Rounds, UnmetBefore, BestRound, KeptTrial, workingOf, orderOf, Complete, KeptOfRounds, OutsideRangeFound, ZeroPivotFound}
 use Rattle.solver.specs.Endings.{Solutions, solutions}
+use Rattle.solver.specs.Kept.{first-outside-refused}
 use Rattle.solver.specs.Laws.{trial-formed}
-use Rattle.solver.specs.Outcomes.{solution-refused}
+use Rattle.solver.specs.Outcomes.{solution-solved, solution-refused}
 use Rattle.solver.specs.Ranking.{bestRound}
 use Rattle.solver.specs.RankingLaws.{best-some, best-few, best-least, best-earlier}
-use Rattle.solver.specs.Refinement.{figureLimit, start}
-use Rattle.solver.specs.Solution.{Solution, refusedSolution, byElimination, solved, solution}
+use Rattle.solver.specs.Refinement.{figureLimit, start, trialOfRound}
+use Rattle.solver.specs.Solution.{Solution, judgedTrial, refusedSolution, byElimination, solved, solution}
+
+-- nothing is accepted beside a refusal
+accepted-not : {A : Type 0} {q : Refusal} → Refused q ≡ Accepted → A
+accepted-not e = let z : _≡_ {A = ℕ} 0 1 = cc in absurd (omega arith)
 
 module _ (s : System) (D K : ℕ) where
-  -- the working matrix and the order of the rows
   abbrev w : List (List ℤ)
-  w = eliminated (s .n) (s .rows .A) .working
+  w = workingOf s
 
   abbrev o : List ℕ
-  o = eliminated (s .n) (s .rows .A) .order
+  o = orderOf s
 
-  -- P in each way in which the rounds end, and by the elimination's outcome
-  cases : (P : Solution → Type 0) → Solutions w o s D K P
-      → ((k : ℕ) → outcome (s .n) (eliminated (s .n) (s .rows .A) .steps) ≡ Stopped k → P (refusedSolution ZeroPivot (start s D)))
+  -- P in each way in which the rounds end, over a complete elimination, and where it is not complete
+  cases : (P : Solution → Type 0) → (Complete s → Solutions w o s D K P)
+      → ((k : ℕ) → outcome (s .n) (eliminated (s .n) (s .rows .A) .steps) ≡ E.ZeroPivot k → P (refusedSolution ZeroPivot (start s D)))
       → P (solution s D K)
   unfolding solution
   cases P h d = go (outcome (s .n) (eliminated (s .n) (s .rows .A) .steps)) refl
     where
       go : (e : Elimination) → outcome (s .n) (eliminated (s .n) (s .rows .A) .steps) ≡ e
           → P (byElimination e (solved w o s D K) (refusedSolution ZeroPivot (start s D)))
-      go Complete q = solutions w o s D K P h
-      go (Stopped k) q = d k q
+      go E.Complete q = solutions w o s D K P (h q)
+      go (E.ZeroPivot k) q = d k q
 
   -- the kept trial, and its judgement where it is an answer
   pub answer : KeptAnswer s D (solution s D K)
   answer =
       cases (KeptAnswer s D)
-      (record {
+      (λ _. record {
         no-round = λ _. record { figures = zeros-within mostTanks; judgement-is = λ _. refl };
         met = λ k f. record { figures = figures k; judgement-is = λ _. refl };
-        unmet = λ l f. record { figures = figures (bestRound w o s D K); judgement-is = λ _. refl };
-        outside = λ k j f. record { figures = figures (suc k); judgement-is = λ e. absurd (omega (arith, ap statusNumber e)) };
+        none-met = λ l f. record { figures = figures (bestRound w o s D K); judgement-is = λ _. refl };
+        outside = λ k j f. record { figures = figures (suc k); judgement-is = accepted-not };
       })
-      (λ k q. record { figures = zeros-within mostTanks; judgement-is = λ e. absurd (omega (arith, ap statusNumber e)) })
+      (λ k q. record { figures = zeros-within mostTanks; judgement-is = accepted-not })
     where
-      figures : (k : ℕ) → Within figureLimit (roundTrial s D k)
+      figures : (k : ℕ) → Within figureLimit (trialOfRound w o s D k)
       figures k = trial-formed w o s D k .figures (zeros-within mostTanks)
 
   -- it has a place for each tank that a case may have
   pub trial-places : length (solution s D K .trial) ≡ mostTanks
   trial-places =
       cases (λ (r : Solution). length (r .trial) ≡ mostTanks)
-      (record {
+      (λ _. record {
         no-round = λ _. refl;
         met = λ k f. trial-formed w o s D k .places;
-        unmet = λ l f. trial-formed w o s D (bestRound w o s D K) .places;
+        none-met = λ l f. trial-formed w o s D (bestRound w o s D K) .places;
         outside = λ k j f. trial-formed w o s D (suc k) .places;
       })
       (λ k q. refl)
@@ -80,51 +85,52 @@ module _ (s : System) (D K : ℕ) where
   pub rounds : 1 ≤ K → solution s D K .status ≡ Accepted → Rounds K (solution s D K)
   rounds l =
       cases (λ r. r .status ≡ Accepted → Rounds K r)
-      (record {
+      (λ _. record {
         no-round = λ z. absurd (omega arith);
         met = λ k f e. record { some = f .some; few = f .few; early = λ _. f .met };
-        unmet = λ _ f e. record { some = l; few = omega arith; early = λ m. absurd (omega arith) };
-        outside = λ k j f e. absurd (omega (arith, ap statusNumber e));
+        none-met = λ _ f e. record { some = l; few = omega arith; early = λ m. absurd (omega arith) };
+        outside = λ k j f. accepted-not;
       })
-      (λ k q e. absurd (omega (arith, ap statusNumber e)))
+      (λ k q. accepted-not)
 
   -- ---- which trial is kept
 
-  best-is : 1 ≤ K → UnmetBefore w o s D (suc K) → BestRound s D K (bestRound w o s D K)
+  best-is : 1 ≤ K → UnmetBefore w o s D (suc K) → BestRound w o s D K (bestRound w o s D K)
   best-is l f =
       record {
-        unmet = λ k a b. f k a (omega arith) .unmet;
+        some = best-some w o s D K l;
+        few = best-few w o s D K l;
+        none-met = f;
         least = best-least w o s D K l;
         earlier = best-earlier w o s D K l;
-        factor = λ k a b. lesser-has-factor s (trial (s .n) D (roundTrial s D (bestRound w o s D K))) (trial (s .n) D (roundTrial s D k)) (best-least w o s D K l k a b);
+        factor = λ k a b.
+            lesser-has-factor s (trial (s .n) D (trialOfRound w o s D (bestRound w o s D K))) (trial (s .n) D (trialOfRound w o s D k)) (best-least w o s D K l k a b);
       }
 
-  pub kept-trial : 1 ≤ K → solution s D K .status ≡ Accepted → KeptTrial s D K (solution s D K)
+  pub kept-trial : 1 ≤ K → solution s D K .status ≡ Accepted → KeptOfRounds s D K (solution s D K)
   kept-trial l =
-      cases (λ r. r .status ≡ Accepted → KeptTrial s D K r)
-      (record {
+      cases (λ r. r .status ≡ Accepted → KeptOfRounds s D K r)
+      (λ q. record {
         no-round = λ z. absurd (omega arith);
         met = λ k f _. record {
-          round = k;
-          some = f .some;
-          few = f .few;
-          trial-is = refl;
-          judgement-is = refl;
-          met = λ _. (refl, λ i a b. f .before i a b .unmet);
-          unmet = λ e. absurd (false≢true (sym e ∙ f .met));
+          complete = q;
+          kept = record { round = k; trial-is = refl; judgement-is = refl; met = λ _. (f, refl); not-met = λ e. absurd (true≢false (sym (f .met) ∙ e)) };
         };
-        unmet = λ _ f _. record {
-          round = bestRound w o s D K;
-          some = best-some w o s D K l;
-          few = best-few w o s D K l;
-          trial-is = refl;
-          judgement-is = refl;
-          met = λ e. absurd (false≢true (sym (best-is l f .unmet (bestRound w o s D K) (best-some w o s D K l) (best-few w o s D K l)) ∙ e));
-          unmet = λ _. (refl, best-is l f);
-        };
-        outside = λ k j f e. absurd (omega (arith, ap statusNumber e));
+        none-met = λ _ f _. record { complete = q; kept = best-kept f };
+        outside = λ k j f. accepted-not;
       })
-      (λ k q e. absurd (omega (arith, ap statusNumber e)))
+      (λ k q. accepted-not)
+    where
+      best-kept : UnmetBefore w o s D (suc K) → KeptTrial w o s D K (judgedTrial s D K (trialOfRound w o s D (bestRound w o s D K)))
+      best-kept f =
+          let b = best-is l f in
+          record {
+            round = bestRound w o s D K;
+            trial-is = refl;
+            judgement-is = refl;
+            met = λ e. absurd (true≢false (sym e ∙ f (bestRound w o s D K) (b .some) (omega (arith, b .few)) .not-met));
+            not-met = λ _. (b, refl);
+          }
 
   -- ---- refusal 8 exactly if at some step every candidate for the pivot is zero
 
@@ -135,23 +141,28 @@ module _ (s : System) (D K : ℕ) where
   pub refused-zero-pivot : solution s D K .status ≡ Refused ZeroPivot → ZeroPivotFound s
   refused-zero-pivot =
       cases (λ r. r .status ≡ Refused ZeroPivot → ZeroPivotFound s)
-      (record {
+      (λ _. record {
         no-round = λ _ e. absurd (omega (arith, ap statusNumber e));
         met = λ k f e. absurd (omega (arith, ap statusNumber e));
-        unmet = λ l f e. absurd (omega (arith, ap statusNumber e));
+        none-met = λ l f e. absurd (omega (arith, ap statusNumber e));
         outside = λ k j f e. absurd (omega (arith, ap statusNumber e));
       })
       (λ k q e. record { step = k; column = zero-pivot-column (s .n) (s .rows .A) k q })
 
-  -- ---- refusal 9 only where some round leaves its limits and none before it is met
+  -- ---- refusal 9 exactly if the elimination is complete and some round leaves its limits with none met before it
+
+  pub outside-range-refused : OutsideRangeFound s D K → solution s D K .status ≡ Refused OutsideRange
+  outside-range-refused f =
+      ap (λ (r : Solution). r .status) (sym (solution-solved s D w o refl refl (f .complete) K))
+      ∙ first-outside-refused w o s D K (f .round) (f .first)
 
   pub refused-outside-range : solution s D K .status ≡ Refused OutsideRange → OutsideRangeFound s D K
   refused-outside-range =
       cases (λ r. r .status ≡ Refused OutsideRange → OutsideRangeFound s D K)
-      (record {
+      (λ q. record {
         no-round = λ _ e. absurd (omega (arith, ap statusNumber e));
         met = λ k f e. absurd (omega (arith, ap statusNumber e));
-        unmet = λ l f e. absurd (omega (arith, ap statusNumber e));
-        outside = λ k j f e. record { round = suc k; first = f };
+        none-met = λ l f e. absurd (omega (arith, ap statusNumber e));
+        outside = λ k j f e. record { complete = q; round = suc k; first = f };
       })
       (λ k q e. absurd (omega (arith, ap statusNumber e)))

@@ -13,7 +13,8 @@ use Rattle.judge.specs.System.{System}
 use Rattle.outcome.specs.declared.Refusal.the-variants.{OutsideRange}
 use Rattle.solver.specs.Claims.{RoundUnmet, UnmetBefore, FirstMet, FirstOutside}
 use Rattle.solver.specs.Laws.{trial-start, refined-none}
-use Rattle.solver.specs.Ranking.{RankedTrial, bestRound, bestOfRounds}
+use Rattle.solver.specs.RankedTrials.{RankedTrial, bestOfRounds}
+use Rattle.solver.specs.Ranking.{bestRound}
 use Rattle.solver.specs.Refinement.{Progress, start, judgedProgress, round, ended, refined, trialOfRound, withinOfRound, judgementOfRound}
 use Rattle.solver.specs.Solution.{Solution, judgedTrial, refusedSolution, keptSolution, solved, acceptedSolution, keptOf}
 
@@ -25,7 +26,7 @@ module _ (w : List (List ℤ)) (o : List ℕ) (s : System) (D : ℕ) where
   -- P in each way in which K rounds end
   pub record Endings (K : ℕ) (P : Progress → Type 0) : Type 0 where
     pub met : (k : ℕ) → FirstMet w o s D K k → P (judgedProgress s D k (trialOfRound w o s D k))
-    pub unmet : UnmetBefore w o s D (suc K) → P (judgedProgress s D K (trialOfRound w o s D K))
+    pub none-met : UnmetBefore w o s D (suc K) → P (judgedProgress s D K (trialOfRound w o s D K))
     pub outside : (k : ℕ) (j : Judgement) → FirstOutside w o s D K (suc k) → P (outsideProgress k j)
 
   one-more-unmet : (k : ℕ) → UnmetBefore w o s D k → RoundUnmet w o s D k → UnmetBefore w o s D (suc k)
@@ -48,7 +49,7 @@ module _ (w : List (List ℤ)) (o : List ℕ) (s : System) (D : ℕ) where
       where
         by-met : withinOfRound w o s D (suc k) ≡ true → (t : Bool) → judgementOfRound w o s D (suc k) .met ≡ t → P (cond t (judged (suc k)) (refined w o s D m (judged (suc k))))
         by-met q true r = h .met (suc k) (record { some = omega arith; few = omega arith; before = b; within = q; met = r })
-        by-met q false r = rest (one-more-unmet (suc k) b (record { within = q; unmet = r }))
+        by-met q false r = rest (one-more-unmet (suc k) b (record { within = q; not-met = r }))
 
         by-within : (t : Bool) → withinOfRound w o s D (suc k) ≡ t
             → P (cond (ended (cond t (judged (suc k)) (outsideProgress k j))) (cond t (judged (suc k)) (outsideProgress k j)) (refined w o s D m (cond t (judged (suc k)) (outsideProgress k j))))
@@ -62,7 +63,7 @@ module _ (w : List (List ℤ)) (o : List ℕ) (s : System) (D : ℕ) where
         turn 0 k j (omega arith) b
         (λ b′.
         let q : K ≡ suc k = omega arith in
-        rw (refined-none w o s D (judged (suc k))) (subst (λ (x : ℕ). UnmetBefore w o s D (suc x) → P (judged x)) q (h .unmet) b′))
+        rw (refined-none w o s D (judged (suc k))) (subst (λ (x : ℕ). UnmetBefore w o s D (suc x) → P (judged x)) q (h .none-met) b′))
     rounds-more (suc m) k j e b = turn (suc m) k j (omega arith) b (λ b′. rounds-more m (suc k) (judgementOfRound w o s D (suc k)) (omega arith) b′)
 
     pub endings : 0 < K → P (refined w o s D K (start s D))
@@ -82,9 +83,9 @@ module _ (w : List (List ℤ)) (o : List ℕ) (s : System) (D : ℕ) where
   kept-alike K b l =
       record {
         met = λ k f h. rw (f .met);
-        unmet = λ f h.
+        none-met = λ f h.
             ap (λ (r : RankedTrial). cond (judgementOfRound w o s D K .met) (judgedTrial s D K (trialOfRound w o s D K)) (acceptedSolution K (r .trial) (r .judgement)))
-            (h refl (f K l (omega arith) .unmet));
+            (h refl (f K l (omega arith) .not-met));
         outside = λ k j f h. refl;
       }
 
@@ -103,7 +104,7 @@ module _ (w : List (List ℤ)) (o : List ℕ) (s : System) (D : ℕ) where
   pub record Solutions (K : ℕ) (P : Solution → Type 0) : Type 0 where
     pub no-round : K ≡ 0 → P (judgedTrial s D 0 (replicate mostTanks (pos 0)))
     pub met : (k : ℕ) → FirstMet w o s D K k → P (judgedTrial s D k (trialOfRound w o s D k))
-    pub unmet : 0 < K → UnmetBefore w o s D (suc K) → P (judgedTrial s D K (trialOfRound w o s D (bestRound w o s D K)))
+    pub none-met : 0 < K → UnmetBefore w o s D (suc K) → P (judgedTrial s D K (trialOfRound w o s D (bestRound w o s D K)))
     pub outside : (k : ℕ) (j : Judgement) → FirstOutside w o s D K (suc k) → P (refusedSolution OutsideRange (outsideProgress k j))
 
   pub solutions : (K : ℕ) (P : Solution → Type 0) → Solutions K P → P (solved w o s D K)
@@ -112,7 +113,7 @@ module _ (w : List (List ℤ)) (o : List ℕ) (s : System) (D : ℕ) where
       endings (suc k) (λ p. P (keptSolution w o s D (suc k) p))
       (record {
         met = λ i f. at-true (judged i) (judgementOfRound w o s D i .met) (f .met) (h .met i f);
-        unmet = λ f. at-false (judged (suc k)) (judgementOfRound w o s D (suc k) .met) (f (suc k) (omega arith) (omega arith) .unmet) (h .unmet (omega arith) f);
+        none-met = λ f. at-false (judged (suc k)) (judgementOfRound w o s D (suc k) .met) (f (suc k) (omega arith) (omega arith) .not-met) (h .none-met (omega arith) f);
         outside = h .outside;
       }) (omega arith)
     where

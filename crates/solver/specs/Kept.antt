@@ -19,7 +19,7 @@ module _ (w : List (List ℤ)) (o : List ℕ) (s : System) (D K : ℕ) where
   -- ---- no two of these are so at once
 
   met-unmet : (k : ℕ) → FirstMet w o s D K k → UnmetBefore w o s D (suc K) → ⊥
-  met-unmet k m u = true≢false (sym (m .met) ∙ u k (m .some) (omega (arith, m .few)) .unmet)
+  met-unmet k m u = true≢false (sym (m .met) ∙ u k (m .some) (omega (arith, m .few)) .not-met)
 
   outside-unmet : (k : ℕ) → FirstOutside w o s D K k → UnmetBefore w o s D (suc K) → ⊥
   outside-unmet k f u = true≢false (sym (u k (f .some) (omega (arith, f .few)) .within) ∙ f .outside)
@@ -28,7 +28,7 @@ module _ (w : List (List ℤ)) (o : List ℕ) (s : System) (D K : ℕ) where
   met-outside k i m f = go (decLt k i) (decLt i k)
     where
       go : Dec (k < i) → Dec (i < k) → ⊥
-      go (yes l) d = true≢false (sym (m .met) ∙ f .before k (m .some) l .unmet)
+      go (yes l) d = true≢false (sym (m .met) ∙ f .before k (m .some) l .not-met)
       go (no l) (yes l′) = true≢false (sym (m .before i (f .some) l′ .within) ∙ f .outside)
       go (no l) (no l′) =
           let e : k ≡ i = omega arith in
@@ -38,8 +38,8 @@ module _ (w : List (List ℤ)) (o : List ℕ) (s : System) (D K : ℕ) where
   met-once k i m f = go (decLt k i) (decLt i k)
     where
       go : Dec (k < i) → Dec (i < k) → k ≡ i
-      go (yes l) d = absurd (true≢false (sym (m .met) ∙ f .before k (m .some) l .unmet))
-      go (no l) (yes l′) = absurd (true≢false (sym (f .met) ∙ m .before i (f .some) l′ .unmet))
+      go (yes l) d = absurd (true≢false (sym (m .met) ∙ f .before k (m .some) l .not-met))
+      go (no l) (yes l′) = absurd (true≢false (sym (f .met) ∙ m .before i (f .some) l′ .not-met))
       go (no l) (no l′) = omega arith
 
   -- ---- what is kept
@@ -51,7 +51,7 @@ module _ (w : List (List ℤ)) (o : List ℕ) (s : System) (D K : ℕ) where
       (record {
         no-round = λ z. absurd (omega (arith, m .some, m .few));
         met = λ i f. ap (λ (x : ℕ). judgedTrial s D x (trialOfRound w o s D x)) (met-once i k f m);
-        unmet = λ _ f. absurd (met-unmet k m f);
+        none-met = λ _ f. absurd (met-unmet k m f);
         outside = λ i j f. absurd (met-outside k (suc i) m f);
       })
 
@@ -62,7 +62,7 @@ module _ (w : List (List ℤ)) (o : List ℕ) (s : System) (D K : ℕ) where
       (record {
         no-round = λ z. absurd (omega (arith, f .some, f .few));
         met = λ i m. absurd (met-outside i k m f);
-        unmet = λ _ u. absurd (outside-unmet k f u);
+        none-met = λ _ u. absurd (outside-unmet k f u);
         outside = λ i j _. refl;
       })
 
@@ -73,6 +73,6 @@ module _ (w : List (List ℤ)) (o : List ℕ) (s : System) (D K : ℕ) where
       (record {
         no-round = λ z. absurd (omega arith);
         met = λ i m. absurd (met-unmet i m u);
-        unmet = λ _ _. refl;
+        none-met = λ _ _. refl;
         outside = λ i j f. absurd (outside-unmet (suc i) f u);
       })

@@ -1,5 +1,6 @@
 pub mod Refinement
 pub mod Ranking
+pub mod RankedTrials
 pub mod Solution
 pub mod Limits
 pub mod Claims

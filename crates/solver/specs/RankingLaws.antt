@@ -11,7 +11,8 @@ use Rattle.fractions.specs.Least.{less, firstLeast, FirstLeast}
 use Rattle.fractions.specs.RankLaws.{first-least-is}
 use Rattle.judge.specs.Judgement.{Judgement, decidingFactor}
 use Rattle.judge.specs.System.{System}
-use Rattle.solver.specs.Ranking.{factorOfRound, bestRound, RankedTrial, rankedTrial, rankedFrom, bestFrom, takesPlace, better, ranked, bestAfter, bestOfRounds}
+use Rattle.solver.specs.RankedTrials.{RankedTrial, rankedTrial, rankedFrom, bestFrom, replaces, betterTrial, ranked, bestAfter, bestOfRounds}
+use Rattle.solver.specs.Ranking.{factorOfRound, bestRound}
 use Rattle.solver.specs.declared.BestTrial.{BestTrial}
 use Rattle.solver.specs.Refinement.{Progress, judgedProgress, ended, trialOfRound, judgementOfRound}
 
@@ -21,34 +22,41 @@ use Rattle.solver.specs.Refinement.{Progress, judgedProgress, ended, tri
 pub not-last : (b : BestTrial) (Y R : List ℤ) (T : List ℕ) (BY BR : List ℤ) (BT : List ℕ) → b .last ≡ false → bestFrom b Y R T BY BR BT ≡ rankedFrom b BY BR BT
 not-last b Y R T BY BR BT e = ap (λ (t : Bool). rankedFrom b (cond t Y BY) (cond t R BR) (cond t T BT)) e
 
--- and so where it is laid aside before the last gives way to the next
-pub laid-aside : (b : BestTrial) (Y R : List ℤ) (T : List ℕ) (BY BR : List ℤ) (BT : List ℕ) {SY SR : List ℤ} {ST : List ℕ}
+-- and so where it is stored before the last gives way to the next
+pub stored-is : (b : BestTrial) (Y R : List ℤ) (T : List ℕ) (BY BR : List ℤ) (BT : List ℕ) {SY SR : List ℤ} {ST : List ℕ}
     → SY ≡ cond (b .last) Y BY → SR ≡ cond (b .last) R BR → ST ≡ cond (b .last) T BT → rankedFrom b SY SR ST ≡ bestFrom b Y R T BY BR BT
-laid-aside b Y R T BY BR BT y r t = λ i. rankedFrom b (y i) (r i) (t i)
+stored-is b Y R T BY BR BT y r t = λ i. rankedFrom b (y i) (r i) (t i)
 
 -- ---- one more trial
 
 pub met-not-ranked : (k : ℕ) (b : RankedTrial) (Y : List ℤ) (j : Judgement) → j .met ≡ true → b ≡ ranked k b Y j
 met-not-ranked k b Y j e = go (j .met) e
   where
-    go : (t : Bool) → t ≡ true → b ≡ cond t b (better k b (rankedTrial Y j))
+    go : (t : Bool) → t ≡ true → b ≡ cond t b (betterTrial k b (rankedTrial Y j))
     go true p = refl
     go false p = absurd (true≢false (sym p))
 
+pub refused-not-ranked : (k : ℕ) (b : RankedTrial) (p : Progress) → p .within ≡ false → b ≡ bestAfter k b p
+refused-not-ranked k b p e = go (p .within) e
+  where
+    go : (t : Bool) → t ≡ false → b ≡ cond t (ranked k b (p .trial) (p .judgement)) b
+    go true q = absurd (true≢false q)
+    go false q = refl
+
 -- unmet, as code finds it: its factor f, and whether it takes the best one's place
 module _ (k : ℕ) (b : RankedTrial) (Y : List ℤ) (j : Judgement) (f : Fraction) (m : j .met ≡ false) (e : f ≡ decidingFactor j) where
-  pub not-taken : takesPlace k (b .factor) f ≡ false → b ≡ ranked k b Y j
-  not-taken q = go (j .met) (takesPlace k (b .factor) (decidingFactor j)) m (ap (takesPlace k (b .factor)) (sym e) ∙ q)
+  pub not-taken : replaces k (b .factor) f ≡ false → b ≡ ranked k b Y j
+  not-taken q = go (j .met) (replaces k (b .factor) (decidingFactor j)) m (ap (replaces k (b .factor)) (sym e) ∙ q)
     where
       go : (x y : Bool) → x ≡ false → y ≡ false → b ≡ cond x b (cond y (rankedTrial Y j) b)
       go true y p q = refl
       go false true p q = absurd (true≢false q)
       go false false p q = refl
 
-  pub taken : takesPlace k (b .factor) f ≡ true → record { trial = Y; judgement = j; factor = f } ≡ ranked k b Y j
+  pub taken : replaces k (b .factor) f ≡ true → record { trial = Y; judgement = j; factor = f } ≡ ranked k b Y j
   taken q =
       ap (λ (g : Fraction). record { trial = Y; judgement = j; factor = g }) e
-      ∙ go (j .met) (takesPlace k (b .factor) (decidingFactor j)) m (ap (takesPlace k (b .factor)) (sym e) ∙ q)
+      ∙ go (j .met) (replaces k (b .factor) (decidingFactor j)) m (ap (replaces k (b .factor)) (sym e) ∙ q)
     where
       go : (x y : Bool) → x ≡ false → y ≡ true → rankedTrial Y j ≡ cond x b (cond y (rankedTrial Y j) b)
       go true y p q = absurd (true≢false p)
@@ -64,7 +72,7 @@ module _ (w : List (List ℤ)) (o : List ℕ) (s : System) (D : ℕ) where
   rankedRound k = rankedTrial (trialOfRound w o s D k) (judgementOfRound w o s D k)
 
   -- one round more
-  one-better : (k : ℕ) (b : RankedTrial) → (0 < k → b ≡ bestOfRounds w o s D k) → better k b (rankedRound (suc k)) ≡ bestOfRounds w o s D (suc k)
+  one-better : (k : ℕ) (b : RankedTrial) → (0 < k → b ≡ bestOfRounds w o s D k) → betterTrial k b (rankedRound (suc k)) ≡ bestOfRounds w o s D (suc k)
   unfolding bestRound
   one-better zero b h = rw (first-one less factors)
   one-better (suc k) b h =
@@ -79,7 +87,7 @@ module _ (w : List (List ℤ)) (o : List ℕ) (s : System) (D : ℕ) where
       → (0 < k → b ≡ bestOfRounds w o s D k) → b′ ≡ bestAfter k b p → b′ ≡ bestOfRounds w o s D (suc k)
   best-more k b b′ p e t h q = q ∙ rw e (go (judgementOfRound w o s D (suc k) .met) (rw e at t)) ∙ one-better k b h
     where
-      go : (t : Bool) → t ≡ false → cond t b (better k b (rankedRound (suc k))) ≡ better k b (rankedRound (suc k))
+      go : (t : Bool) → t ≡ false → cond t b (betterTrial k b (rankedRound (suc k))) ≡ betterTrial k b (rankedRound (suc k))
       go true z = absurd (true≢false z)
       go false z = refl
 

@@ -11,7 +11,7 @@ use Rattle.judge.specs.System.{System}
 use Rattle.solver.specs.Laws.{trial-formed, trial-start, round-goes-on, judged-resumable, refined-none, refined-more, refined-ended}
 use Rattle.solver.specs.Limits.{Resumable}
 use Rattle.solver.specs.Outcomes.{start-resumable}
-use Rattle.solver.specs.Ranking.{RankedTrial, bestAfter, bestOfRounds}
+use Rattle.solver.specs.RankedTrials.{RankedTrial, bestAfter, bestOfRounds}
 use Rattle.solver.specs.RankingLaws.{best-more}
 use Rattle.solver.specs.Refinement.{Progress, start, judgedProgress, round, ended, refined, trialOfRound}
 
@@ -59,9 +59,9 @@ module _ (w : List (List ℤ)) (o : List ℕ) (s : System) (D K : ℕ) where
     ended-made t = refined-ended w o s D m p q l e t ∙ h .rest
 
 -- where the work ends within its limits the trial is met
-pub ended-met : {A : Type 0} (p : Progress) → ended p ≡ true → p .within ≡ true → p .judgement .met ≡ false → A
-ended-met {A = A} p e w m = go (p .within) (p .judgement .met) e w m
+pub ended-met : (p : Progress) → ended p ≡ true → p .within ≡ true → p .judgement .met ≡ true
+ended-met p e w = go (p .within) e w
   where
-    go : (x y : Bool) → cond x y true ≡ true → x ≡ true → y ≡ false → A
-    go true y e w m = absurd (true≢false (sym e ∙ m))
-    go false y e w m = absurd (true≢false (sym w))
+    go : (x : Bool) → cond x (p .judgement .met) true ≡ true → x ≡ true → p .judgement .met ≡ true
+    go true e w = e
+    go false e w = absurd (true≢false (sym w))

@@ -18,7 +18,8 @@ use Rattle.outcome.specs.declared.Refusal.{Refusal}
 use Rattle.outcome.specs.declared.Refusal.the-variants.{ZeroPivot, OutsideRange}
 use Rattle.outcome.specs.declared.Status.{Status}
 use Rattle.outcome.specs.declared.Status.the-variants.{Accepted, Refused}
-use Rattle.solver.specs.Ranking.{RankedTrial, bestRound}
+use Rattle.solver.specs.RankedTrials.{RankedTrial}
+use Rattle.solver.specs.Ranking.{bestRound}
 use Rattle.solver.specs.Refinement.{Progress, nothingSaid, start, refined, trialOfRound}
 use Rattle.solver.specs.declared.Kept.{Kept}
 
@@ -34,20 +35,24 @@ pub record Solution : Type 0 where
 abbrev pub solutionFrom : Kept → List ℤ → List ℤ → List ℕ → Solution
 solutionFrom k Y R T = record { status = k .status; rounds = k .rounds; trial = Y; judgement = judgementFrom (k .conclusion) R T }
 
--- the trial Y after k rounds as an answer, judged
+-- the trial Y after k rounds as an answer, with what is said of it; and judged
+abbrev pub acceptedSolution : ℕ → List ℤ → Judgement → Solution
+acceptedSolution k Y j = record { status = Accepted; rounds = k; trial = Y; judgement = j }
+
 abbrev pub judgedTrial : System → ℕ → ℕ → List ℤ → Solution
-judgedTrial s D k Y = record { status = Accepted; rounds = k; trial = Y; judgement = judgement s (trial (s .n) D Y) }
+judgedTrial s D k Y = acceptedSolution k Y (judgement s (trial (s .n) D Y))
 
 abbrev pub refusedSolution : Refusal → Progress → Solution
 refusedSolution r p = record { status = Refused r; rounds = p .rounds; trial = p .trial; judgement = nothingSaid (p .judgement .residuals) (p .judgement .reaches) }
 
+-- where the work ends at p: the last trial if it is met, the best if it is not, or refusal 9
+abbrev pub keptAtEnd : Progress → Solution → Solution → Solution
+keptAtEnd p last best = cond (p .within) (cond (p .judgement .met) last best) (refusedSolution OutsideRange p)
+
 -- which trial is kept of the rounds 1 to K, where the work ends at p: "The first that is met", with its own round; where none is met "the one with the
--- least factor", and "rounds used is then K"; or refusal 9
+-- least factor", and "rounds used is then K"
 abbrev pub keptSolution : List (List ℤ) → List ℕ → System → ℕ → ℕ → Progress → Solution
-keptSolution w o s D K p =
-    cond (p .within)
-    (cond (p .judgement .met) (judgedTrial s D (p .rounds) (p .trial)) (judgedTrial s D K (trialOfRound w o s D (bestRound w o s D K))))
-    (refusedSolution OutsideRange p)
+keptSolution w o s D K p = keptAtEnd p (judgedTrial s D (p .rounds) (p .trial)) (judgedTrial s D K (trialOfRound w o s D (bestRound w o s D K)))
 
 -- over one complete elimination, which others may share: its working matrix and the order of its rows. With no round allowed the answer is zero
 abbrev pub solved : List (List ℤ) → List ℕ → System → ℕ → ℕ → Solution
@@ -66,18 +71,9 @@ solution s D K =
     (solved (eliminated (s .n) (s .rows .A) .working) (eliminated (s .n) (s .rows .A) .order) s D K)
     (refusedSolution ZeroPivot (start s D))
 
--- ---- as code finds it
-
--- a trial after k rounds as an answer, with what is said of it
-abbrev pub acceptedSolution : ℕ → List ℤ → Judgement → Solution
-acceptedSolution k Y j = record { status = Accepted; rounds = k; trial = Y; judgement = j }
-
--- what is kept where the work ends at p and b is the best trial
+-- as code finds it, with the best trial b beside the end of the work
 abbrev pub keptOf : Progress → RankedTrial → Solution
-keptOf p b =
-    cond (p .within)
-    (cond (p .judgement .met) (acceptedSolution (p .rounds) (p .trial) (p .judgement)) (acceptedSolution (p .rounds) (b .trial) (b .judgement)))
-    (refusedSolution OutsideRange p)
+keptOf p b = keptAtEnd p (acceptedSolution (p .rounds) (p .trial) (p .judgement)) (acceptedSolution (p .rounds) (b .trial) (b .judgement))
 
 -- ---- what is promised
 

@@ -1,7 +1,8 @@
 // The answer of a system of linear equations: one elimination, then rounds of refinement, each trial judged, and the first that is met or the best
 // of them kept.
 ghost use Prim.Native.Nat.{ℕ, _<_, _≤_};
-ghost use lib.IntN.{ℤ};
+ghost use lib.IntN.{ℤ, pos};
+ghost use lib.ListN.{replicate};
 ghost use mathlib.Core.Bool.{true, false, cond};
 ghost use mathlib.Core.List.{List};
 ghost use mathlib.Core.Path.{_≡_};
@@ -11,9 +12,9 @@ ghost use Rattle.judge.specs.Judgement.{judgementFrom};
 ghost use Rattle.judge.specs.System.{system};
 ghost use Rattle.elimination.specs.Claims.{Permutation};
 ghost use Rattle.solver.specs.Limits.{Limits, Ranges, FiguresCorrectable, Updatable, Ready, Startable};
-ghost use Rattle.solver.specs.Refinement.{permuted, substituted, update, correctedFrom, corrected, nothingSaid, Progress, progressFrom, round as roundOf, endedBy, refined, start as startOf};
-ghost use Rattle.solver.specs.Ranking.{rankedFrom, bestFrom, unranked, takesPlace, ranked, bestAfter, bestOfRounds};
-ghost use Rattle.solver.specs.Solution.{solutionFrom, refusedSolution, keptOf, solved, solution, SolutionIs};
+ghost use Rattle.solver.specs.Refinement.{permuted, substituted, update, correctedFrom, corrected, nothingSaid, Progress, progressFrom, refusedProgress, round as roundOf, endedBy, refined, start as startOf};
+ghost use Rattle.solver.specs.RankedTrials.{rankedFrom, bestFrom, unranked, replaces as replacesBest, ranked, bestAfter, bestOfRounds};
+ghost use Rattle.solver.specs.Solution.{solutionFrom, judgedTrial, refusedSolution, keptOf, solved, solution, SolutionIs};
 use elimination::Elimination;
 use elimination::eliminate;
 use fractions::exceeds;
@@ -156,9 +157,9 @@ pub fn start(
     }
 }
 
-// Whether one more trial takes the best one's place, after so many others: where it is the first, or where the best one's factor exceeds its own.
-fn takes_place(others: usize, best: BestTrial, numerator: u64, denominator: u64) -> bool
-    ensures { λ r. ⌜ r ≡ takesPlace others (best .numerator over best .denominator) (numerator over denominator) ⌝ }
+// Whether one more trial replaces the best, after so many others: where it is the first, or where the best one's factor exceeds its own.
+fn replaces(others: usize, best: BestTrial, numerator: u64, denominator: u64) -> bool
+    ensures { λ r. ⌜ r ≡ replacesBest others (best .numerator over best .denominator) (numerator over denominator) ⌝ }
 {
     if others == 0 {
         true
@@ -167,8 +168,8 @@ fn takes_place(others: usize, best: BestTrial, numerator: u64, denominator: u64)
     }
 }
 
-// The best trial where it is not the last.
-fn earlier(best: BestTrial) -> BestTrial
+// The best trial where it is not the last: it stands in lists of its own.
+fn stored(best: BestTrial) -> BestTrial
     ensures { λ r. ⌜ (r .last ≡ false) × ((Y : List ℤ) (R : List ℤ) (T : List ℕ) → rankedFrom r Y R T ≡ rankedFrom best Y R T) ⌝ }
 {
     let conclusion = best.conclusion;
@@ -192,12 +193,12 @@ fn rank<'a>(
     ensures { λ r. ⌜ ((Y BY BR : List ℤ) (BT : List ℕ) → bestFrom r Y (now (residuals .entry)) (now (reaches .entry)) BY BR BT ≡ ranked others (rankedFrom best BY BR BT) Y (judgementFrom conclusion (now (residuals .entry)) (now (reaches .entry)))) ⌝ }
 {
     if conclusion.met {
-        return earlier(best);
+        return stored(best);
     }
     let at = conclusion.decides - 1;
     let numerator = magnitude(residuals[at]);
     let denominator = reaches[at];
-    if takes_place(others, best, numerator, denominator) {
+    if replaces(others, best, numerator, denominator) {
         BestTrial {
             last: true,
             conclusion,
@@ -205,13 +206,13 @@ fn rank<'a>(
             denominator,
         }
     } else {
-        earlier(best)
+        stored(best)
     }
 }
 
-// Where it is wanted, the figures, residuals and reaches of one trial in the place of another's.
-fn copy_where<'a>(
-    wanted: bool,
+// If so, the figures, residuals and reaches of one trial in the place of another's.
+fn copy_trial_if<'a>(
+    copied: bool,
     trial: &'a [i32; MOST_TANKS],
     residuals: &'a [i64; MOST_TANKS],
     reaches: &'a [u64; MOST_TANKS],
@@ -219,19 +220,34 @@ fn copy_where<'a>(
     to_residuals: &mut [i64; MOST_TANKS],
     to_reaches: &mut [u64; MOST_TANKS],
 )
-    ensures trial { λ r. ⌜ now («to_trial» .exit) ≡ cond wanted (now (trial .entry)) (now («to_trial» .entry)) ⌝ }
-    ensures residuals { λ r. ⌜ now («to_residuals» .exit) ≡ cond wanted (now (residuals .entry)) (now («to_residuals» .entry)) ⌝ }
-    ensures reaches { λ r. ⌜ now («to_reaches» .exit) ≡ cond wanted (now (reaches .entry)) (now («to_reaches» .entry)) ⌝ }
+    ensures trial { λ r. ⌜ now («to_trial» .exit) ≡ cond copied (now (trial .entry)) (now («to_trial» .entry)) ⌝ }
+    ensures residuals { λ r. ⌜ now («to_residuals» .exit) ≡ cond copied (now (residuals .entry)) (now («to_residuals» .entry)) ⌝ }
+    ensures reaches { λ r. ⌜ now («to_reaches» .exit) ≡ cond copied (now (reaches .entry)) (now («to_reaches» .entry)) ⌝ }
 {
-    if wanted {
+    if copied {
         *to_trial = *trial;
         *to_residuals = *residuals;
         *to_reaches = *reaches;
     }
 }
 
+// The state after a round that left its limits: as before it, with the best trial in lists of its own.
+fn refused_round(state: RefinementState) -> RefinementState
+    ensures progress { λ r. ⌜ ((Y : List ℤ) (Z : List ℤ) (R : List ℤ) (T : List ℕ) → progressFrom r Z R T ≡ refusedProgress (progressFrom state Y R T) Z) ⌝ }
+    ensures best { λ r. ⌜ (r .best .last ≡ false) × ((Y : List ℤ) (R : List ℤ) (T : List ℕ) → rankedFrom (r .best) Y R T ≡ rankedFrom (state .best) Y R T) ⌝ }
+{
+    let conclusion = state.conclusion;
+    let best = stored(state.best);
+    RefinementState {
+        within: false,
+        rounds: state.rounds,
+        conclusion,
+        best,
+    }
+}
+
 // One round: the next trial in place of the last, judged, and ranked where it is unmet; or refusal 9, where residuals, reaches and the best trial stay
-// as they are and the trial is as far as it was formed. Where the last trial is the best, it is laid aside first.
+// as they are and the trial is as far as it was formed. Where the last trial is the best, it is stored first.
 pub fn round<'a>(
     n: usize,
     scale: u16,
@@ -254,7 +270,7 @@ pub fn round<'a>(
 {
     type_ranges(*coefficients, right_hand_side);
     let former = state.best;
-    copy_where(
+    copy_trial_if(
         former.last,
         trial,
         residuals,
@@ -283,14 +299,7 @@ pub fn round<'a>(
             best,
         }
     } else {
-        let conclusion = state.conclusion;
-        let best = earlier(former);
-        RefinementState {
-            within: false,
-            rounds: state.rounds,
-            conclusion,
-            best,
-        }
+        refused_round(state)
     }
 }
 
@@ -389,16 +398,16 @@ pub fn keep<'a>(
 {
     if state.within {
         let status = Status::Accepted;
-        let last = state.conclusion;
-        if last.met {
+        let conclusion = state.conclusion;
+        if conclusion.met {
             return Kept {
                 status,
                 rounds: state.rounds,
-                conclusion: last,
+                conclusion,
             };
         }
         let best = state.best;
-        copy_where(
+        copy_trial_if(
             !best.last,
             best_trial,
             best_residuals,
@@ -407,14 +416,46 @@ pub fn keep<'a>(
             residuals,
             reaches,
         );
-        let conclusion = best.conclusion;
+        let kept = best.conclusion;
         Kept {
             status,
             rounds: state.rounds,
-            conclusion,
+            conclusion: kept,
         }
     } else {
         refused(Refusal::OutsideRange, state.rounds)
+    }
+}
+
+// The answer where no round is allowed: zero, judged.
+fn zero_answer<'a>(
+    n: usize,
+    scale: u16,
+    coefficients: &'a [i16; MOST_COEFFICIENTS],
+    tolerances: &'a [u16; MOST_COEFFICIENTS],
+    right_hand_side: RightHandSide,
+    trial: &mut [i32; MOST_TANKS],
+    residuals: &mut [i64; MOST_TANKS],
+    reaches: &mut [u64; MOST_TANKS],
+) -> Kept
+    requires { ⌜ n ≤ mostTanks ⌝ }
+    ensures { λ r. ⌜ SolutionIs (solutionFrom r (now (trial .exit)) (now (residuals .exit)) (now (reaches .exit))) (judgedTrial (system n (now (coefficients .entry)) (now (tolerances .entry)) («right_hand_side» .values) («right_hand_side» .tolerances)) scale 0 (replicate mostTanks (pos 0))) ⌝ }
+{
+    *trial = [0i32; MOST_TANKS];
+    let conclusion = judge(
+        n,
+        scale,
+        coefficients,
+        tolerances,
+        right_hand_side,
+        trial,
+        residuals,
+        reaches,
+    );
+    Kept {
+        status: Status::Accepted,
+        rounds: 0,
+        conclusion,
     }
 }
 
@@ -437,8 +478,7 @@ pub fn solve_eliminated<'a>(
     ensures { λ r. ⌜ SolutionIs (solutionFrom r (now (trial .exit)) (now (residuals .exit)) (now (reaches .exit))) (solved (now (working .entry)) (now (order .entry)) (system n (now (coefficients .entry)) (now (tolerances .entry)) («right_hand_side» .values) («right_hand_side» .tolerances)) scale rounds) ⌝ }
 {
     if rounds == 0 {
-        *trial = [0i32; MOST_TANKS];
-        let conclusion = judge(
+        return zero_answer(
             n,
             scale,
             coefficients,
@@ -448,11 +488,6 @@ pub fn solve_eliminated<'a>(
             residuals,
             reaches,
         );
-        return Kept {
-            status: Status::Accepted,
-            rounds: 0,
-            conclusion,
-        };
     }
     let mut best_trial = [0i32; MOST_TANKS];
     let mut best_residuals = [0i64; MOST_TANKS];

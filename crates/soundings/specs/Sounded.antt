@@ -11,7 +11,8 @@ use Rattle.outcome.specs.declared.Status.the-variants.{Accepted}
 use Rattle.figures.specs.Figures.{u16Kind, figureAt}
 use Rattle.casefile.specs.Case.{Case}
 use Rattle.casefile.specs.Decode.{accepted, decode}
-use Rattle.ballast.specs.Call.{scaleOf, caseSolution}
+use Rattle.solver.specs.Claims.{KeptOfRounds}
+use Rattle.ballast.specs.Call.{scaleOf, systemOf, caseSolution}
 use Rattle.sounding_table.specs.Table.{referenceEntry}
 
 -- the depth that bytes hold of tank j, from 0
@@ -41,10 +42,11 @@ pub record OutsideCase (c : Case) : Type 0 where
   pub is-tank : tank < c .n
   pub outside : Outside (scaleOf (c .exponent)) (caseAnswer c tank)
 
--- what a count m says of the bytes that a buffer then holds
+-- what a count m says of the bytes that a buffer then holds, and which trial the sounded answer is where the case brings none
 pub record Sounded (input buffer : List ℕ) (m : ℕ) : Type 0 where
   pub case : Case
   pub read : decode input ≡ accepted case
   pub answered : caseSolution case .status ≡ Accepted
+  pub kept : 1 ≤ case .rounds → KeptOfRounds (systemOf case) (scaleOf (case .exponent)) (case .rounds) (caseSolution case)
   pub count : m ≡ 2 * case .n
   pub depths : (j : ℕ) → j < case .n → SoundedAt (scaleOf (case .exponent)) (caseAnswer case j) (soundedDepth buffer j)

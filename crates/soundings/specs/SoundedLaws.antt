@@ -34,6 +34,7 @@ use Rattle.recordfile.specs.ReadOff.{recordedAnswer}
 use Rattle.ballast.specs.Call.{Answer, scaleOf, caseSolution, inPlaces, answerOf, answerRecord, recordResult, judgeResult}
 use Rattle.ballast.specs.CallLaws.{Answering, answering}
 use Rattle.ballast.specs.Demand.{Demand}
+use Rattle.ballast.specs.Theorem.{kept-case}
 use Rattle.sounding_table.specs.Depth.{depth, inside}
 use Rattle.sounding_table.specs.Table.{referenceTank}
 use Rattle.soundings.specs.Sounded.{soundedDepth, SoundedAt, caseAnswer, OutsideCase, Sounded}
@@ -159,6 +160,7 @@ module _ (input out : List ℕ) (m : ℕ) (e : soundingsResult input out .outcom
         case = k;
         read = from .decoded;
         answered = from .answered;
+        kept = kept-case k (from .answered);
         count = tanks;
         depths = depth-at;
       }

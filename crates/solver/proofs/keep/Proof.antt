@@ -20,7 +20,7 @@ returns-2 c =
     let k = c .before in
     let d = k .before .before .before .before .before .before in
     let best = d .before .before .before .args .state .best in
-    let e = k .copy-where .ensures in
+    let e = k .copy-trial-if .ensures in
     rw (d .before .before .if1 .taken, d .if2 .left) (record {
       number = refl;
       rounds = refl;

@@ -10,7 +10,7 @@ use mir.Val.{SFits}
 use native.Mathlib.Omega.{arith}
 use Rattle.fractions.specs.Fraction.{_over_}
 use Rattle.judge.specs.Judgement.{Judgement, judgementFrom, decidingFactor}
-use Rattle.solver.specs.Ranking.{rankedFrom}
+use Rattle.solver.specs.RankedTrials.{rankedFrom}
 use Rattle.solver.specs.RankingLaws.{not-last, met-not-ranked, not-taken, taken}
 use Rattle.solver.proofs.rank.Statement.{statement}
 use Rattle.solver.proofs.rank.Tie as tie
@@ -24,8 +24,8 @@ returns : tie.Need-returns
 returns c Y BY BR BT =
     let s = c .before .before in
     let g = s .args in
-    not-last (c .earlier .result) Y (g .residuals .now) (g .reaches .now) BY BR BT (c .earlier .ensures .0)
-    ∙ c .earlier .ensures .1 BY BR BT
+    not-last (c .stored .result) Y (g .residuals .now) (g .reaches .now) BY BR BT (c .stored .ensures .0)
+    ∙ c .stored .ensures .1 BY BR BT
     ∙ met-not-ranked (g .others) (rankedFrom (g .best) BY BR BT) Y (said s) (c .before .if1 .taken)
 
 -- the row that decides
@@ -45,16 +45,16 @@ returns-2 : tie.Need-returns-2
 returns-2 c Y BY BR BT =
     let d = c .before .before .before in
     let g = begun d .args in
-    taken (g .others) (rankedFrom (g .best) BY BR BT) Y (said (begun d)) _ (d .before .before .before .if1 .left) (factor-is d) (sym (c .before .takes-place .ensures) ∙ c .if2 .taken)
+    taken (g .others) (rankedFrom (g .best) BY BR BT) Y (said (begun d)) _ (d .before .before .before .if1 .left) (factor-is d) (sym (c .before .replaces .ensures) ∙ c .if2 .taken)
 
 returns-3 : tie.Need-returns-3
 returns-3 c Y BY BR BT =
     let e = c .before in
     let d = e .before .before .before in
     let g = begun d .args in
-    not-last (c .earlier2 .result) Y (g .residuals .now) (g .reaches .now) BY BR BT (c .earlier2 .ensures .0)
-    ∙ c .earlier2 .ensures .1 BY BR BT
-    ∙ not-taken (g .others) (rankedFrom (g .best) BY BR BT) Y (said (begun d)) _ (d .before .before .before .if1 .left) (factor-is d) (sym (e .before .takes-place .ensures) ∙ e .if2 .left)
+    not-last (c .stored2 .result) Y (g .residuals .now) (g .reaches .now) BY BR BT (c .stored2 .ensures .0)
+    ∙ c .stored2 .ensures .1 BY BR BT
+    ∙ not-taken (g .others) (rankedFrom (g .best) BY BR BT) Y (said (begun d)) _ (d .before .before .before .if1 .left) (factor-is d) (sym (e .before .replaces .ensures) ∙ e .if2 .left)
 
 pub rank-spec : {M : Type 1} → statement M
 rank-spec =

@@ -3,11 +3,12 @@
 use Prim.Native.Nat.{ℕ, _<_}
 use borrow.Author.Needs.{needs}
 use lib.IntN.{ℤ}
+use mathlib.Core.Bool.{true≢false}
 use mathlib.Core.List.{List}
 use mathlib.Core.Path.{_≡_, sym, _∙_}
 use native.Mathlib.Omega.{arith}
 use Rattle.judge.specs.System.{System, system}
-use Rattle.solver.specs.Ranking.{RankedTrial, bestFrom}
+use Rattle.solver.specs.RankedTrials.{RankedTrial, bestFrom}
 use Rattle.solver.specs.Refinement.{Progress, progressFrom, start}
 use Rattle.solver.specs.RoundsMade.{RoundsMade, none-made, all-made, one-more-made, ended-made, ended-met}
 use Rattle.solver.proofs.refine.Statement.{statement}
@@ -77,7 +78,7 @@ returns c =
     let b = begun (d .before) in
     let e = sym (c .before .ended .ensures) ∙ c .if1 .taken in (
       ended-made (w′ b) (o′ b) (s′ b) (D′ b) (b .args .rounds) (d .loop .left) (p′ d) (q′ r) (b′ d) (d .loop .inv) (some-left r) (r .round .ensures .0) e,
-      λ _ within unmet. ended-met (q′ r) e within unmet,
+      λ _ within unmet. absurd (true≢false (sym (ended-met (q′ r) e within) ∙ unmet)),
     )
 
 loop-again : tie.Need-loop-again Inv-loop μ-loop

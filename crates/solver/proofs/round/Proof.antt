@@ -9,8 +9,8 @@ use Rattle.judge.specs.Judgement.{Judgement, judgementFrom, concluded, judgemen
 use Rattle.judge.specs.Laws.{judgement-concluded}
 use Rattle.judge.specs.System.{System, system, trial}
 use Rattle.solver.specs.Laws.{round-on, round-refused}
-use Rattle.solver.specs.Ranking.{RankedTrial, rankedFrom, bestFrom, ranked}
-use Rattle.solver.specs.RankingLaws.{not-last, laid-aside}
+use Rattle.solver.specs.RankedTrials.{RankedTrial, rankedFrom, bestFrom, ranked}
+use Rattle.solver.specs.RankingLaws.{not-last, stored-is, refused-not-ranked}
 use Rattle.solver.specs.Refinement.{Update, update, updated, Progress, progressFrom}
 use Rattle.solver.specs.Sizes.{updatable, updated-from}
 use Rattle.solver.proofs.round.Statement.{statement}
@@ -29,19 +29,19 @@ module _ (c : tie.Start) where
   abbrev b′ : RankedTrial
   b′ = bestFrom (c .args .state .best) (c .args .trial .now) (c .args .residuals .now) (c .args .reaches .now) (c .args .best-trial .now) (c .args .best-residuals .now) (c .args .best-reaches .now)
 
-module _ (c : tie.After-copy-where) where
+module _ (c : tie.After-copy-trial-if) where
   abbrev entered : tie.Start
   entered = c .before .before .before .before .before .before .before .before .before .before
 
   -- the best trial before the round, as it is laid aside
-  former-is : rankedFrom (entered .args .state .best) (c .copy-where .last .1 .1 .1 .1 .0) (c .copy-where .last .1 .1 .1 .1 .1 .0) (c .copy-where .last .1 .1 .1 .1 .1 .1 .0) ≡ b′ entered
+  former-is : rankedFrom (entered .args .state .best) (c .copy-trial-if .last .1 .1 .1 .1 .0) (c .copy-trial-if .last .1 .1 .1 .1 .1 .0) (c .copy-trial-if .last .1 .1 .1 .1 .1 .1 .0) ≡ b′ entered
   former-is =
       let g = entered .args in
-      let e = c .copy-where .ensures in
-      laid-aside (g .state .best) (g .trial .now) (g .residuals .now) (g .reaches .now) (g .best-trial .now) (g .best-residuals .now) (g .best-reaches .now) (e .0) (e .1 .0) (e .1 .1)
+      let e = c .copy-trial-if .ensures in
+      stored-is (g .state .best) (g .trial .now) (g .residuals .now) (g .reaches .now) (g .best-trial .now) (g .best-residuals .now) (g .best-reaches .now) (e .0) (e .1 .0) (e .1 .1)
 
 module _ (c : tie.After-update-trial) where
-  abbrev copied : tie.After-copy-where
+  abbrev copied : tie.After-copy-trial-if
   copied = c .before .before .before
 
   abbrev begun : tie.Start
@@ -83,7 +83,7 @@ rank-requires c κs =
     let b = begun′ j in
     rw (ap (λ (x : Judgement). x .decides) (said-is j)) (decides-place (s′ b) (trial (b .args .n) (D′ b) (next (updated′ j) .trial)) (b .pre .startable .limits .small))
 
-counted : tie.Need-add-t40
+counted : tie.Need-add-t38
 counted c = omega (arith, begun′ (c .before .before .before .before) .pre .countable)
 
 returns : tie.Need-returns
@@ -93,7 +93,7 @@ returns c =
     let b = begun d in
     let Y = next d .trial in
     let m = j .before .before .before .measure .last .1 .1 .1 .1 .1 .1 in
-    let S = copied d .copy-where .last .1 .1 .1 .1 in (
+    let S = copied d .copy-trial-if .last .1 .1 .1 .1 in (
       round-on (b .args .working .now) (b .args .order .now) (s′ b) (D′ b) (p′ b) (next d) (next-is d) _ (j .before .before .before .before .before .before .before .if1 .taken) (said-is j),
       c .before .rank .ensures Y (S .0) (S .1 .0) (S .1 .1 .0)
           ∙ ap (λ (x : RankedTrial). ranked (b .args .state .rounds) x Y (judgementFrom (j .conclude .result) (m .0) (m .1 .0))) (former-is (copied d)),
@@ -101,13 +101,16 @@ returns c =
 
 returns-2 : tie.Need-returns-2
 returns-2 c =
-    let d = c .before .before .before in
+    let d = c .before .before in
     let b = begun d in
-    let S = copied d .copy-where .last .1 .1 .1 .1 in (
-      round-refused (b .args .working .now) (b .args .order .now) (s′ b) (D′ b) (p′ b) (next d) (next-is d) (c .before .before .if1 .left),
-      not-last (c .earlier .result) (next d .trial) (b .args .residuals .now) (b .args .reaches .now) (S .0) (S .1 .0) (S .1 .1 .0) (c .earlier .ensures .0)
-          ∙ c .earlier .ensures .1 (S .0) (S .1 .0) (S .1 .1 .0)
-          ∙ former-is (copied d),
+    let r = c .refused-round .ensures in
+    let q = r .0 (b .args .trial .now) (next d .trial) (b .args .residuals .now) (b .args .reaches .now) in
+    let S = copied d .copy-trial-if .last .1 .1 .1 .1 in (
+      q ∙ round-refused (b .args .working .now) (b .args .order .now) (s′ b) (D′ b) (p′ b) (next d) (next-is d) (c .before .if1 .left),
+      not-last (c .refused-round .result .best) (next d .trial) (b .args .residuals .now) (b .args .reaches .now) (S .0) (S .1 .0) (S .1 .1 .0) (r .1 .0)
+          ∙ r .1 .1 (S .0) (S .1 .0) (S .1 .1 .0)
+          ∙ former-is (copied d)
+          ∙ refused-not-ranked (b .args .state .rounds) (b′ b) (progressFrom (c .refused-round .result) (next d .trial) (b .args .residuals .now) (b .args .reaches .now)) (ap (λ (x : Progress). x .within) q),
     )
 
 pub round-spec : {M : Type 1} → statement M

@@ -2,12 +2,12 @@
 -- Assumes nothing.
 use Prim.Native.Nat.{ℕ, _<_}
 use borrow.Author.Needs.{needs}
-use mathlib.Core.Path.{_≡_, refl}
+use mathlib.Core.Path.{_≡_}
 use native.Mathlib.Omega.{arith}
 use Rattle.judge.specs.System.{system}
 use Rattle.solver.specs.Endings.{kept-solved}
 use Rattle.solver.specs.Outcomes.{promised-also}
-use Rattle.solver.specs.Ranking.{bestFrom}
+use Rattle.solver.specs.RankedTrials.{bestFrom}
 use Rattle.solver.specs.Refinement.{progressFrom}
 use Rattle.solver.proofs.solve_eliminated.Statement.{statement}
 use Rattle.solver.proofs.solve_eliminated.Tie as tie
@@ -17,8 +17,8 @@ some K h = omega arith
 
 returns : tie.Need-returns
 returns c =
-    let e : c .before .before .before .before .before .before .args .rounds ≡ 0 = omega arith in
-    rw e (record { number = refl; rounds = refl; trial = refl; judgement = c .judge .ensures })
+    let e : c .before .before .before .before .before .args .rounds ≡ 0 = omega arith in
+    rw e (c .zero-answer .ensures)
 
 returns-2 : tie.Need-returns-2
 returns-2 c =
