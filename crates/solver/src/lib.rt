@@ -459,6 +459,53 @@ fn zero_answer<'a>(
     }
 }
 
+// The answer over one complete elimination, in at most `rounds` rounds of which there is one, or refusal 9.
+fn answer_by_rounds<'a>(
+    n: usize,
+    scale: u16,
+    coefficients: &'a [i16; MOST_COEFFICIENTS],
+    tolerances: &'a [u16; MOST_COEFFICIENTS],
+    right_hand_side: RightHandSide,
+    working: &'a [[i64; MOST_TANKS]; MOST_TANKS],
+    order: &'a [usize; MOST_TANKS],
+    rounds: usize,
+    trial: &mut [i32; MOST_TANKS],
+    residuals: &mut [i64; MOST_TANKS],
+    reaches: &mut [u64; MOST_TANKS],
+) -> Kept
+    requires { ⌜ Startable (now working) (now order) n scale × (0 < rounds) ⌝ }
+    ensures { λ r. ⌜ SolutionIs (solutionFrom r (now (trial .exit)) (now (residuals .exit)) (now (reaches .exit))) (solved (now (working .entry)) (now (order .entry)) (system n (now (coefficients .entry)) (now (tolerances .entry)) («right_hand_side» .values) («right_hand_side» .tolerances)) scale rounds) ⌝ }
+{
+    let mut best_trial = [0i32; MOST_TANKS];
+    let mut best_residuals = [0i64; MOST_TANKS];
+    let mut best_reaches = [0u64; MOST_TANKS];
+    let state = refine(
+        n,
+        scale,
+        coefficients,
+        tolerances,
+        right_hand_side,
+        working,
+        order,
+        rounds,
+        trial,
+        residuals,
+        reaches,
+        &mut best_trial,
+        &mut best_residuals,
+        &mut best_reaches,
+    );
+    keep(
+        state,
+        &best_trial,
+        &best_residuals,
+        &best_reaches,
+        trial,
+        residuals,
+        reaches,
+    )
+}
+
 // The answer over one complete elimination, in at most `rounds` rounds, or refusal 9. With no round allowed it is the zero trial, judged. After refusal
 // 9 the trial is as far as it was formed, beside the residuals and reaches that stood before that round.
 pub fn solve_eliminated<'a>(
@@ -489,10 +536,7 @@ pub fn solve_eliminated<'a>(
             reaches,
         );
     }
-    let mut best_trial = [0i32; MOST_TANKS];
-    let mut best_residuals = [0i64; MOST_TANKS];
-    let mut best_reaches = [0u64; MOST_TANKS];
-    let state = refine(
+    answer_by_rounds(
         n,
         scale,
         coefficients,
@@ -501,18 +545,6 @@ pub fn solve_eliminated<'a>(
         working,
         order,
         rounds,
-        trial,
-        residuals,
-        reaches,
-        &mut best_trial,
-        &mut best_residuals,
-        &mut best_reaches,
-    );
-    keep(
-        state,
-        &best_trial,
-        &best_residuals,
-        &best_reaches,
         trial,
         residuals,
         reaches,
