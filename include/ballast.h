@@ -32,7 +32,7 @@ extern "C" {
 #define BALLAST_TEXT_ROOM 800     /* no printed verdict is longer, and the shortest buffer for one */
 #define BALLAST_SOUNDINGS_ROOM 16 /* two bytes for each of eight tanks, and the shortest buffer for soundings */
 
-/* Measured and not proved: examples/run calls each function on a painted stack and finds 5,672 bytes changed at most. Where memcpy and
+/* Measured and not proved: examples/run calls each function on a painted stack and finds 5,976 bytes changed at most. Where memcpy and
  * memset are bound at their first call, what the loader needs for that comes on top. */
 #define BALLAST_STACK_NEED 8192
 
