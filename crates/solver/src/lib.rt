@@ -267,6 +267,9 @@ pub fn round<'a>(
     requires { ⌜ Ready (now working) (now order) (system n (now coefficients) (now tolerances) («right_hand_side» .values) («right_hand_side» .tolerances)) scale (progressFrom state (now trial) (now residuals) (now reaches)) ⌝ }
     ensures progress { λ r. ⌜ progressFrom r (now (trial .exit)) (now (residuals .exit)) (now (reaches .exit)) ≡ roundOf (now (working .entry)) (now (order .entry)) (system n (now (coefficients .entry)) (now (tolerances .entry)) («right_hand_side» .values) («right_hand_side» .tolerances)) scale (progressFrom state (now (trial .entry)) (now (residuals .entry)) (now (reaches .entry))) ⌝ }
     ensures best { λ r. ⌜ bestFrom (r .best) (now (trial .exit)) (now (residuals .exit)) (now (reaches .exit)) (now («best_trial» .exit)) (now («best_residuals» .exit)) (now («best_reaches» .exit)) ≡ bestAfter (state .rounds) (bestFrom (state .best) (now (trial .entry)) (now (residuals .entry)) (now (reaches .entry)) (now («best_trial» .entry)) (now («best_residuals» .entry)) (now («best_reaches» .entry))) (progressFrom r (now (trial .exit)) (now (residuals .exit)) (now (reaches .exit))) ⌝ }
+    ensures stored_trial { λ r. ⌜ now («best_trial» .exit) ≡ cond (state .best .last) (now (trial .entry)) (now («best_trial» .entry)) ⌝ }
+    ensures stored_residuals { λ r. ⌜ now («best_residuals» .exit) ≡ cond (state .best .last) (now (residuals .entry)) (now («best_residuals» .entry)) ⌝ }
+    ensures stored_reaches { λ r. ⌜ now («best_reaches» .exit) ≡ cond (state .best .last) (now (reaches .entry)) (now («best_reaches» .entry)) ⌝ }
 {
     type_ranges(*coefficients, right_hand_side);
     let former = state.best;

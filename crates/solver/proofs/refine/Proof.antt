@@ -86,7 +86,7 @@ loop-again c =
     let r = c .before .before in
     let d = head r in
     let b = begun (d .before) in
-    one-more-made (w′ b) (o′ b) (s′ b) (D′ b) (b .args .rounds) (d .loop .left) (p′ d) (q′ r) (b′ d) (d .loop .inv) (some-left r) (r .round .ensures .0) _ (r .round .ensures .1)
+    one-more-made (w′ b) (o′ b) (s′ b) (D′ b) (b .args .rounds) (d .loop .left) (p′ d) (q′ r) (b′ d) (d .loop .inv) (some-left r) (r .round .ensures .0) _ (r .round .ensures .1 .0)
     (sym (c .before .ended .ensures) ∙ c .if1 .left)
 
 returns-2 : tie.Need-returns-2 Inv-loop μ-loop

@@ -95,8 +95,11 @@ returns c =
     let m = j .before .before .before .measure .last .1 .1 .1 .1 .1 .1 in
     let S = copied d .copy-trial-if .last .1 .1 .1 .1 in (
       round-on (b .args .working .now) (b .args .order .now) (s′ b) (D′ b) (p′ b) (next d) (next-is d) _ (j .before .before .before .before .before .before .before .if1 .taken) (said-is j),
-      c .before .rank .ensures Y (S .0) (S .1 .0) (S .1 .1 .0)
-          ∙ ap (λ (x : RankedTrial). ranked (b .args .state .rounds) x Y (judgementFrom (j .conclude .result) (m .0) (m .1 .0))) (former-is (copied d)),
+      (
+        c .before .rank .ensures Y (S .0) (S .1 .0) (S .1 .1 .0)
+            ∙ ap (λ (x : RankedTrial). ranked (b .args .state .rounds) x Y (judgementFrom (j .conclude .result) (m .0) (m .1 .0))) (former-is (copied d)),
+        copied d .copy-trial-if .ensures,
+      ),
     )
 
 returns-2 : tie.Need-returns-2
@@ -107,10 +110,13 @@ returns-2 c =
     let q = r .0 (b .args .trial .now) (next d .trial) (b .args .residuals .now) (b .args .reaches .now) in
     let S = copied d .copy-trial-if .last .1 .1 .1 .1 in (
       q ∙ round-refused (b .args .working .now) (b .args .order .now) (s′ b) (D′ b) (p′ b) (next d) (next-is d) (c .before .if1 .left),
-      not-last (c .refused-round .result .best) (next d .trial) (b .args .residuals .now) (b .args .reaches .now) (S .0) (S .1 .0) (S .1 .1 .0) (r .1 .0)
-          ∙ r .1 .1 (S .0) (S .1 .0) (S .1 .1 .0)
-          ∙ former-is (copied d)
-          ∙ refused-not-ranked (b .args .state .rounds) (b′ b) (progressFrom (c .refused-round .result) (next d .trial) (b .args .residuals .now) (b .args .reaches .now)) (ap (λ (x : Progress). x .within) q),
+      (
+        not-last (c .refused-round .result .best) (next d .trial) (b .args .residuals .now) (b .args .reaches .now) (S .0) (S .1 .0) (S .1 .1 .0) (r .1 .0)
+            ∙ r .1 .1 (S .0) (S .1 .0) (S .1 .1 .0)
+            ∙ former-is (copied d)
+            ∙ refused-not-ranked (b .args .state .rounds) (b′ b) (progressFrom (c .refused-round .result) (next d .trial) (b .args .residuals .now) (b .args .reaches .now)) (ap (λ (x : Progress). x .within) q),
+        copied d .copy-trial-if .ensures,
+      ),
     )
 
 pub round-spec : {M : Type 1} → statement M
