@@ -2,15 +2,17 @@
  *
  * A case is a file of n moment equations over n tanks, with the tolerance of each figure, an exponent e (an answer Y means Y / 10^e tonnes) and
  * the number of rounds, or with 0 rounds a trial answer of its own. A record is the judged answer; soundings are the answer's depths in the
- * reference tank. All three layouts, byte by byte, are in docs/FORMAT.md.
+ * reference tank. A matrix text holds the coefficients alone, in the array form of NIST's Matrix Market format. All four layouts, byte by byte,
+ * are in docs/FORMAT.md.
  *
  * Every function here is total: it may be given any lengths and any bytes, and a null pointer where the length is 0. A pointer with a
  * length above 0 points to that many elements and is aligned as its type asks (bytes anywhere, 16-bit figures at even addresses, 32-bit
- * figures at multiples of 4), and a buffer shares no memory with what is read. A function allocates nothing, keeps no state, calls nothing
+ * figures at multiples of 4), and what is written to shares no memory with what is read. A function allocates nothing, keeps no state, calls nothing
  * outside the library but memcpy and memset, may be called from any thread, and needs at most BALLAST_STACK_NEED bytes of its stack.
  *
- * The result is one number. From 0 on it is a count; below 0 it is a refusal, -1 to -10. After a refusal no byte of the buffer has changed;
- * after a count the bytes beyond that many are as they were.
+ * The result is one number. From 0 on it is a count; below 0 it is a refusal, -1 to -12. After a refusal no byte of the buffer has changed;
+ * after a count the bytes beyond that many are as they were. ballast_read_matrix alone fills a list of figures: after a refusal none of its
+ * places has changed, and the count n means that n * n are filled and those beyond are as they were.
  */
 #ifndef BALLAST_H
 #define BALLAST_H
@@ -31,14 +33,16 @@ extern "C" {
 #define BALLAST_CASE_ROOM 388     /* the longest case, and the shortest buffer for one */
 #define BALLAST_TEXT_ROOM 800     /* no printed verdict is longer, and the shortest buffer for one */
 #define BALLAST_SOUNDINGS_ROOM 16 /* two bytes for each of eight tanks, and the shortest buffer for soundings */
+#define BALLAST_MATRIX_ROOM 496   /* the longest matrix text that is written, and the shortest buffer for one; comments make a text longer */
+#define BALLAST_MATRIX_PLACES 64  /* the coefficients of eight tanks, and the shortest list for those of a matrix text */
 
 /* Measured and not proved: examples/run calls each function on a painted stack and finds 5,976 bytes changed at most. Where memcpy and
  * memset are bound at their first call, what the loader needs for that comes on top. */
 #define BALLAST_STACK_NEED 8192
 
-/* Refusals, in the order in which a case is looked through: the first that applies is the one returned. */
+/* Refusals, in the order in which a case or a matrix text is looked through: the first that applies is the one returned. */
 enum ballast_refusal {
-    BALLAST_BUFFER_TOO_SHORT = -1, /* the buffer is shorter than its room above; nothing else was looked at */
+    BALLAST_BUFFER_TOO_SHORT = -1, /* the buffer or the list to be filled is shorter than its room above; nothing else was looked at */
     BALLAST_FIELD_MISSING = -2,    /* fewer than three bytes are left where a field has to start */
     BALLAST_WRONG_TAG = -3,        /* a field's tag is not the one due at its place */
     BALLAST_WRONG_LENGTH = -4,     /* a field's length is not the one due; in writing, a list has not as many figures as are due */
@@ -48,8 +52,12 @@ enum ballast_refusal {
     BALLAST_ZERO_PIVOT = -8,       /* at some step of the elimination every candidate for the pivot is zero; as the steps round, this does not
                                       prove that the equations have no single answer */
     BALLAST_OUTSIDE_RANGE = -9,    /* on the way a figure of the answer left +-10,000,000, or a correction +-20,000,000 */
-    BALLAST_OUTSIDE_TABLE = -10    /* of soundings alone: an answer is negative, so water would have to be pumped out, or is more than the
+    BALLAST_OUTSIDE_TABLE = -10,   /* of soundings alone: an answer is negative, so water would have to be pumped out, or is more than the
                                       reference tank holds at 400 cm, 520,000 kg */
+    BALLAST_WRONG_MATRIX_HEADER = -11, /* of matrix texts alone: the first line is not the one due, or the size line is missing, not formed
+                                          or ended as it has to be, or not n and n with n from 1 to 8 */
+    BALLAST_WRONG_MATRIX_ENTRY = -12   /* of matrix texts alone: an entry is malformed, outside its limits or missing, or something follows
+                                          the last */
 };
 
 /* What a record says of a row with coefficients A, their tolerances E, right side b and its tolerance f, at the answer Y and D = 10^e:
@@ -108,6 +116,20 @@ int64_t ballast_write_case(size_t n, size_t exponent, size_t rounds,
                            const uint32_t *right_tolerances, size_t right_tolerance_count,
                            const int32_t *trial, size_t trial_count,
                            uint8_t *out, size_t out_length);
+
+/* Reads a matrix text, leaves its coefficients at the front of the list, row after row, and returns their n, 1 to 8; n * n places are filled.
+ * Lines of the text, each ended by one line feed: first "%%MatrixMarket matrix array integer general", byte for byte; then any number of
+ * comment lines, which start with a percent sign; then the size line, the digit n twice with one or more spaces between; then n * n entries,
+ * one a line and column after column, each an optional minus and one to five digits, within +-32,767, the limits of a coefficient in
+ * ballast_write_case. Nothing follows. Refuses with -1 a list of fewer places than BALLAST_MATRIX_PLACES, then with -11 a wrong first line or
+ * size line, then with -12 the first wrong entry, or anything behind the last. No other refusal occurs. */
+int64_t ballast_read_matrix(const uint8_t *text, size_t text_length, int16_t *coefficients, size_t coefficient_count);
+
+/* Writes the matrix text of these coefficients, n * n of them row after row, to the front of out and returns its length: no comments, one space
+ * in the size line, no leading zeros, a minus only below zero, and no zero byte behind it. ballast_read_matrix reads them back from it. Refuses
+ * with -1 an out shorter than BALLAST_MATRIX_ROOM, then with -6 an n outside 1 to 8, then with -4 a count that is not n * n, then with -6 a
+ * coefficient outside +-32,767. */
+int64_t ballast_write_matrix(size_t n, const int16_t *coefficients, size_t coefficient_count, uint8_t *out, size_t out_length);
 
 #ifdef __cplusplus
 }

@@ -28,3 +28,9 @@ needs_lapack() {
     needs "$1" cc
     echo 'int main(void) { return 0; }' | cc -x c - -llapack -lblas -o /dev/null 2>/dev/null || { echo "$1 needs LAPACK (Debian: liblapack-dev libblas-dev)" >&2; exit 1; }
 }
+
+# needs_scipy SCRIPT PYTHON: this Python has SciPy
+needs_scipy() {
+    needs "$1" "$2"
+    "$2" -c 'import scipy.io' 2>/dev/null || { echo "$1 needs SciPy, and $2 has none (Debian: python3-scipy, for /usr/bin/python3)" >&2; exit 1; }
+}

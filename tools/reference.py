@@ -3,16 +3,19 @@
 
 Reads a case, takes its trial answer or works one out by rounded elimination with
 refinement, judges it exactly and writes a record, or gives the tanks' depths for it; also
-writes cases and prints verdicts. Whole numbers and fractions.Fraction only, no floating
-arithmetic. Lists count from 0 here; every row or tank number that leaves a function
-counts from 1. Quotations in the comments are the papers' own words.
+writes cases, prints verdicts, and reads and writes Matrix Market files. Whole numbers and
+fractions.Fraction only, no floating arithmetic. Lists count from 0 here; every row or tank
+number that leaves a function counts from 1. Quotations in the comments are the papers' own
+words.
 
 Command:  python3 tools/reference.py verdict < case
 """
 
+import re
 import sys
 from collections import namedtuple
 from fractions import Fraction
+from itertools import dropwhile
 
 # "at most 180" / "The result buffer is shorter than 180 bytes."
 LEAST_RESULT_BUFFER = 180
@@ -22,6 +25,9 @@ LEAST_DEPTHS_BUFFER = 16
 LONGEST_CASE = 388
 # "The program `verdict` reads at most 389 bytes of standard input"
 MOST_INPUT = LONGEST_CASE + 1
+# "In writing a text buffer under 496 bytes, and in reading a list under 64 places, is refusal 1"
+LEAST_TEXT_BUFFER = 496
+LEAST_PLACES = 64
 # "starting at 256 × A"
 WORKING_SCALE = 256
 # "M = rnd(16,384 × W(i,k) / W(k,k))"
@@ -179,13 +185,12 @@ def counts_due(n, rounds):
 
 
 # "refuses with 1 a buffer ...; then with 6 an n, e or K ...; then with 4 ...; then with 6 any other"
-def writer_refusal(head, lists, buffer_length):
-    if buffer_length < LONGEST_CASE:
+def writer_refusal(head, lists, due, buffer_length, least):
+    if buffer_length < least:
         return 1
     if not all(within_limits(name, figure) for name, figure in zip("neK", head)):
         return 6
-    n, _, rounds = head
-    if [len(figures) for figures in lists] != counts_due(n, rounds):
+    if [len(figures) for figures in lists] != due:
         return 4
     for name, figures in zip("AEbfY", lists):
         if not all(within_limits(name, figure) for figure in figures):
@@ -198,18 +203,22 @@ def in_rows(figures, n):
     return [list(figures[i * n:(i + 1) * n]) for i in range(n)]
 
 
+# "Bytes beyond the case stay untouched." (what is written, at the buffer's front, and its length)
+def put(buffer, written):
+    buffer[:len(written)] = written
+    return Outcome(COUNT, len(written))
+
+
 # "The writer takes n, e, K, ... and a buffer, and returns the case's length."
 def write_case(n, e, rounds, coefficients, tolerances, right_sides, right_tolerances, trial, buffer):
     lists = [coefficients, tolerances, right_sides, right_tolerances, trial]
-    number = writer_refusal((n, e, rounds), lists, len(buffer))
+    number = writer_refusal((n, e, rounds), lists, counts_due(n, rounds), len(buffer), LONGEST_CASE)
     if number:
         return Outcome(REFUSAL, number)
-    encoded = case_bytes(Case(
+    return put(buffer, case_bytes(Case(
         n, e, rounds, in_rows(coefficients, n), in_rows(tolerances, n),
         list(right_sides), list(right_tolerances), list(trial),
-    ))
-    buffer[:len(encoded)] = encoded
-    return Outcome(COUNT, len(encoded))
+    )))
 
 
 # ---------------------------------------------------------------- the steps
@@ -448,11 +457,9 @@ def work(data, buffer_length, least=LEAST_RESULT_BUFFER):
 # "Any refusal ... returns its number and changes no byte." (the bytes made of a finished case are left)
 def leave(data, buffer, least, made_of):
     try:
-        left = made_of(work(data, len(buffer), least))
+        return put(buffer, made_of(work(data, len(buffer), least)))
     except Refused as refused:
         return Outcome(REFUSAL, refused.number)
-    buffer[:len(left)] = left
-    return Outcome(COUNT, len(left))
 
 
 # "the call that takes a case and a result buffer and leaves the record" (changes buffer in place)
@@ -522,6 +529,108 @@ def soundings(data, buffer):
 # "bytes beyond the depths stay as they were" (outcome, and the buffer afterwards)
 def call_soundings(data, buffer_length, fill=0xA5):
     return call(data, buffer_length, fill, soundings)
+
+
+# ---------------------------------------------------------------- Matrix Market files
+
+
+# "Read and write the array form, `%%MatrixMarket matrix array integer general`: after exactly that line"
+FIRST_LINE = b"%%MatrixMarket matrix array integer general"
+# "a size line with rows and columns, one digit each with spaces between"
+SIZE_LINE = re.compile(rb"([0-9]) +([0-9])")
+# "an optional minus and one to five digits"
+ENTRY_LINE = re.compile(rb"-?[0-9]{1,5}")
+
+
+# "one entry a line, column after column" / "The list is row after row" (either order from the other)
+def turned(figures, n):
+    return [figures[j * n + i] for i in range(n) for j in range(n)]
+
+
+# "A line feed ends every line." (the lines, without it, and what stands behind the last line feed)
+def split_lines(text):
+    *lines, rest = text.split(b"\n")
+    return lines, rest
+
+
+# "comment lines starting with a percent sign"
+def is_comment(line):
+    return line.startswith(b"%")
+
+
+# "with 11 ... a size line that is ... not so formed or ended, or not n and n with n from 1 to 8"
+def take_size(line):
+    size = SIZE_LINE.fullmatch(line)
+    if not size or size[1] != size[2] or not within_limits("n", int(size[1])):
+        raise Refused(11)
+    return int(size[1])
+
+
+# "with 12 the first entry that is malformed, out of limits or missing"
+def take_entry(line):
+    if not ENTRY_LINE.fullmatch(line) or not within_limits("A", int(line)):
+        raise Refused(12)
+    return int(line)
+
+
+# "with 12 the first entry that is ... missing, or anything after the last"
+def take_entries(lines, rest, n):
+    entries = [take_entry(line) for line in lines[:n * n]]
+    if len(lines) != n * n or rest:
+        raise Refused(12)
+    return entries
+
+
+# "Reading refuses with 11 a wrong first line, or a size line that is missing ..., and then with 12 ..."
+def take_matrix(text):
+    lines, rest = split_lines(text)
+    if lines[:1] != [FIRST_LINE]:
+        raise Refused(11)
+    lines = list(dropwhile(is_comment, lines[1:]))
+    if not lines:
+        raise Refused(11)
+    n = take_size(lines[0])
+    return n, take_entries(lines[1:], rest, n)
+
+
+# "The list is row after row, places past n × n stay, and reading returns n." (changes the list in place)
+def read_matrix(text, coefficients):
+    if len(coefficients) < LEAST_PLACES:
+        return Outcome(REFUSAL, 1)
+    try:
+        n, entries = take_matrix(text)
+    except Refused as refused:
+        return Outcome(REFUSAL, refused.number)
+    coefficients[:n * n] = turned(entries, n)
+    return Outcome(COUNT, n)
+
+
+# "places past n × n stay" (outcome, and the list afterwards)
+def call_read_matrix(text, places, fill):
+    coefficients = [fill] * places
+    outcome = read_matrix(text, coefficients)
+    return outcome, coefficients
+
+
+# "no comments, single spaces, no leading zeros and a minus only below zero"
+def matrix_text(n, coefficients):
+    lines = [FIRST_LINE, b"%d %d" % (n, n), *(b"%d" % entry for entry in turned(coefficients, n))]
+    return b"".join(line + b"\n" for line in lines)
+
+
+# "Writing returns the text's length" / "in writing the case writer's 6, 4 and 6 then apply in their order"
+def write_matrix(n, coefficients, buffer):
+    number = writer_refusal((n,), [coefficients], [n * n], len(buffer), LEAST_TEXT_BUFFER)
+    if number:
+        return Outcome(REFUSAL, number)
+    return put(buffer, matrix_text(n, coefficients))
+
+
+# "leaves the bytes beyond it" (outcome, and the buffer afterwards)
+def call_write_matrix(n, coefficients, buffer_length, fill=0xA5):
+    buffer = bytearray([fill]) * buffer_length
+    outcome = write_matrix(n, coefficients, buffer)
+    return outcome, bytes(buffer)
 
 
 # ---------------------------------------------------------------- the changes a record yields

@@ -1,5 +1,5 @@
 #!/usr/bin/env python3
-"""Small named cases, each with a readable dump and the printed verdict beside it.
+"""Small named cases, each with a readable dump and the printed verdict beside it, and a matrix text.
 
     python3 tools/samples.py DIR           make the samples in DIR
     python3 tools/samples.py --check DIR   make them again in memory and compare
@@ -7,6 +7,8 @@
 NAME.case holds the bytes of the case, NAME.hex the same bytes in hexadecimal, one field
 a line with a comment after the number sign, and NAME.txt what `verdict` prints for it.
 The dumps of soundings and best-trial end with a comment that gives each tank's depth.
+NAME.mtx holds coefficients as a Matrix Market text, and NAME.rows the same coefficients
+as the examples print them, a row a line.
 """
 
 import sys
@@ -75,6 +77,23 @@ SAMPLES = {
     "best-trial": best_trial,
 }
 
+# column after column: the rows are (-420, 0, 435), (1850, -2210, 1835) and (95, 310, 102)
+THREE_TANKS = b"""\
+%%MatrixMarket matrix array integer general
+% levers of tanks 1 to 3 in centimetres; rows: to starboard, forward, upward
+3 3
+-420
+1850
+95
+0
+-2210
+310
+435
+1835
+102
+"""
+MATRICES = {"three-tanks": THREE_TANKS}
+
 
 # ---------------------------------------------------------------- the readable dump
 
@@ -142,6 +161,13 @@ def depths_comment(data):
     return f"# depths in centimetres: {plain(depths)}\n"
 
 
+def printed_rows(text):
+    """The coefficients of a sound matrix text, a row a line."""
+    outcome, coefficients = reference.call_read_matrix(text, reference.LEAST_PLACES, 0)
+    assert outcome.kind == reference.COUNT
+    return "".join(f"{plain(row)}\n" for row in reference.in_rows(coefficients, outcome.number))
+
+
 # ---------------------------------------------------------------- writing and comparing
 
 
@@ -153,6 +179,9 @@ def make_files():
         text = dump(data) + (depths_comment(data) if name in WITH_DEPTHS else "")
         files[f"{name}.hex"] = text.encode("ascii")
         files[f"{name}.txt"] = reference.verdict_text(data).encode("ascii")
+    for name, text in MATRICES.items():
+        files[f"{name}.mtx"] = text
+        files[f"{name}.rows"] = printed_rows(text).encode("ascii")
     return files
 
 

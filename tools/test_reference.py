@@ -7,6 +7,7 @@
 import itertools
 import math
 import os
+import re
 import subprocess
 import sys
 import unittest
@@ -18,6 +19,7 @@ HERE = os.path.dirname(os.path.abspath(__file__))
 sys.path.insert(0, HERE)
 
 import families  # noqa: E402
+import matrix_calls  # noqa: E402
 import reference  # noqa: E402
 import samples  # noqa: E402
 import sounding_calls  # noqa: E402
@@ -29,6 +31,8 @@ from sounding_calls import holding  # noqa: E402
 
 INPUTS = families.all_families()
 CALLS = sounding_calls.all_calls()
+MATRIX_READS = matrix_calls.all_reads()
+MATRIX_WRITES = matrix_calls.all_writes()
 
 
 # ---------------------------------------------------------------- independent definitions
@@ -163,6 +167,64 @@ def depths_or_refusal(record, e):
     if any(not 0 <= k <= 520_000 for k in kilograms):
         return 10
     return [depth_by_root(figure, e) for figure in record.answer]
+
+
+MATRIX_LINE = "%%MatrixMarket matrix array integer general\n"
+
+
+def matrix_size(rest):
+    """n and the text behind the size line, byte for byte; none where the size line is not one."""
+    if not rest.startswith(MATRIX_LINE):
+        return None
+    rest = rest[len(MATRIX_LINE):]
+    while rest[:1] == "%":
+        while rest[:1] not in ("\n", ""):
+            rest = rest[1:]
+        rest = rest[1:]
+    digit, blank, rest = rest[:1], rest[1:2], rest[1:].lstrip(" ")
+    if digit not in tuple("12345678") or blank != " " or rest[:2] != digit + "\n":
+        return None
+    return int(digit), rest[2:]
+
+
+def matrix_entry(rest):
+    """An entry and the text behind its line; none where there is no entry."""
+    sign = -1 if rest[:1] == "-" else 1
+    rest = rest.removeprefix("-")
+    value, count = 0, 0
+    while rest[:1] in tuple("0123456789"):
+        value, count, rest = 10 * value + ord(rest[0]) - ord("0"), count + 1, rest[1:]
+    if count not in range(1, 6) or value > 32_767 or rest[:1] != "\n":
+        return None
+    return sign * value, rest[1:]
+
+
+def matrix_or_refusal(text):
+    """n and the entries by row and column, counted from 1; or 11 or 12."""
+    found = matrix_size(text.decode("latin-1"))
+    if found is None:
+        return 11
+    (n, rest), entries = found, {}
+    for column, row in itertools.product(range(1, n + 1), repeat=2):
+        found = matrix_entry(rest)
+        if found is None:
+            return 12
+        entries[row, column], rest = found
+    return 12 if rest else (n, entries)
+
+
+def matrix_written(n, coefficients):
+    """The text of the writer, built up entry by entry in rows and columns counted from 1."""
+    text = MATRIX_LINE + chr(48 + n) + " " + chr(48 + n) + "\n"
+    for column, row in itertools.product(range(1, n + 1), repeat=2):
+        entry = coefficients[n * (row - 1) + column - 1]
+        figures = ""
+        left = abs(entry)
+        while left or not figures:
+            left, last = divmod(left, 10)
+            figures = chr(48 + last) + figures
+        text += ("-" if entry < 0 else "") + figures + "\n"
+    return text.encode("ascii")
 
 
 def small_case(stream, n, size, rounds=0):
@@ -733,6 +795,232 @@ class Soundings(unittest.TestCase):
         self.assertGreaterEqual(len(CALLS), 700)
 
 
+class MatrixReading(unittest.TestCase):
+    """Document 02, "Matrix Market files": reading."""
+
+    def read(self, text, places=66):
+        """The coefficients, with the places past n × n as they were."""
+        before = [7 * i - 99 for i in range(places)]
+        coefficients = list(before)
+        outcome = reference.read_matrix(text, coefficients)
+        self.assertEqual(outcome.kind, COUNT, text)
+        count = outcome.number ** 2
+        self.assertEqual(coefficients[count:], before[count:])
+        return coefficients[:count]
+
+    def refused(self, text, number, places=64):
+        before = [7 * i - 99 for i in range(places)]
+        coefficients = list(before)
+        self.assertEqual(reference.read_matrix(text, coefficients), Outcome(REFUSAL, number), text)
+        self.assertEqual(coefficients, before)
+
+    def lines(self, *lines):
+        """The coefficients of these lines behind the first one."""
+        return self.read(matrix_calls.joined(reference.FIRST_LINE, *lines))
+
+    def lines_refused(self, number, *lines):
+        self.refused(matrix_calls.joined(reference.FIRST_LINE, *lines), number)
+
+    def test_column_after_column(self):
+        text = b"%%MatrixMarket matrix array integer general\n% hull\n2 2\n1\n30\n-2\n0\n"
+        self.assertEqual(self.read(text), [1, -2, 30, 0])
+        text = b"%%MatrixMarket matrix array integer general\n3 3\n1\n4\n7\n2\n5\n8\n3\n6\n9\n"
+        self.assertEqual(self.read(text), list(range(1, 10)))
+
+    def test_first_line(self):
+        self.assertEqual(reference.FIRST_LINE.decode("ascii") + "\n", MATRIX_LINE)
+        for line in matrix_calls.OTHER_FIRST_LINES:
+            self.refused(matrix_calls.joined(line, b"1 1", b"5"), 11)
+        for end in (b"", b" ", b"\r", b"\r\n", b"\x00"):
+            self.refused(reference.FIRST_LINE + end, 11)
+
+    def test_comments(self):
+        for line in matrix_calls.COMMENTS:
+            self.assertEqual(self.lines(line, b"1 1", b"5"), [5])
+            self.assertEqual(self.lines(b"%", line, line, b"1 1", b"5"), [5])
+            self.refused(matrix_calls.joined(reference.FIRST_LINE) + line, 11)
+            self.lines_refused(11, line)
+            self.lines_refused(12, b"1 1", line, b"5")
+            self.lines_refused(12, b"1 1", b"5", line)
+        for line in matrix_calls.NO_COMMENTS:
+            self.lines_refused(11, line, b"1 1", b"5")
+
+    def test_size_line(self):
+        for n in range(1, 9):
+            for spaces in (1, 2, 3, 77):
+                size = b"%d" % n + b" " * spaces + b"%d" % n
+                self.assertEqual(self.lines(size, *[b"-3"] * n ** 2), [-3] * n ** 2)
+                self.refused(matrix_calls.joined(reference.FIRST_LINE) + size, 11)
+        for rows, columns in itertools.product(range(12), repeat=2):
+            if rows != columns or rows not in range(1, 9):
+                self.lines_refused(11, b"%d %d" % (rows, columns), *[b"5"] * (rows * columns))
+        for line in matrix_calls.WRONG_SIZES:
+            self.lines_refused(11, line, *[b"5"] * 4)
+
+    def test_entries(self):
+        for line in matrix_calls.GOOD_ENTRIES:
+            self.assertEqual(self.lines(b"1 1", line), [int(line)])
+            self.assertEqual(self.lines(b"2 2", b"8", line, b"9", line), [8, 9, int(line), int(line)])
+        for line in matrix_calls.BAD_ENTRIES:
+            for place in range(4):
+                entries = [b"8"] * 4
+                entries[place] = line
+                self.lines_refused(12, b"2 2", *entries)
+
+    def test_every_figure(self):
+        for figure in range(-100_001, 100_002, 7):
+            text = matrix_calls.text_of(1, [b"%d" % figure])
+            if abs(figure) <= 32_767:
+                self.assertEqual(self.read(text), [figure])
+            else:
+                self.refused(text, 12)
+
+    def test_ends(self):
+        for n in range(1, 9):
+            entries = [b"1"] * n ** 2
+            text = matrix_calls.text_of(n, entries)
+            self.refused(text[:-1], 12)
+            self.refused(text[:-2], 12)
+            self.lines_refused(12, matrix_calls.size_line(n), *entries[1:])
+            self.lines_refused(12, matrix_calls.size_line(n), *entries, b"1")
+            for byte in range(256):
+                self.refused(text + bytes([byte]), 12)
+
+    def test_every_cut(self):
+        for n in range(1, 9):
+            head = matrix_calls.text_of(n, [], b"% office", b"%")
+            text = matrix_calls.text_of(n, matrix_calls.counted(n), b"% office", b"%")
+            for end in range(len(text)):
+                self.refused(text[:end], 11 if end < len(head) else 12)
+            self.assertEqual(len(self.read(text)), n * n)
+
+    def test_list_lengths(self):
+        for n in range(1, 9):
+            text = matrix_calls.text_of(n, matrix_calls.counted(n))
+            for places in range(64):
+                self.refused(text, 1, places)
+            for places in range(64, 82):
+                self.assertEqual(len(self.read(text, places)), n * n)
+
+    def test_order_of_refusals(self):
+        wrong_first, wrong_size = b"", matrix_calls.joined(reference.FIRST_LINE, b"9 9", b"+1")
+        wrong_entry = matrix_calls.text_of(1, [b"+1"], b"%")
+        for text, number in ((wrong_first, 11), (wrong_size, 11), (wrong_entry, 12), (wrong_entry + b"%", 12)):
+            self.refused(text, number)
+            self.refused(text, 1, 63)
+        for text, places in matrix_calls.precedence():
+            wrong = text.startswith(b"%%m") or b"9 9" in text or b"3 3 " in text
+            self.refused(text, 1 if places < 64 else 11 if wrong else 12, places)
+
+    def test_how_much_wider_than_the_writer(self):
+        """Comment lines, further spaces, leading zeros and a minus before a zero read the same."""
+        stream, wider = Stream(111), 0
+        for n in range(1, 9):
+            for _ in range(40):
+                text = matrix_calls.wide(stream, n)
+                coefficients = self.read(text)
+                lines = [line for line in text.split(b"\n")[1:-1] if not line.startswith(b"%")]
+                self.assertEqual(lines[0].split(b" ")[::len(lines[0]) - 2], [b"%d" % n] * 2)
+                narrow = [(b"-" if int(line) < 0 else b"") + (line.lstrip(b"-0") or b"0") for line in lines[1:]]
+                same = matrix_calls.text_of(n, narrow)
+                self.assertEqual(matrix_written(n, coefficients), same)
+                self.assertEqual(self.read(same), coefficients)
+                wider += text != same
+        self.assertGreater(wider, 250)
+
+    def test_what_is_read_can_be_a_case(self):
+        for _, text, _ in MATRIX_READS:
+            coefficients = [0] * 64
+            outcome = reference.read_matrix(text, coefficients)
+            if outcome.kind == COUNT:
+                n = outcome.number
+                lists = [coefficients[:n * n], [0] * (n * n), [0] * n, [0] * n, []]
+                self.assertEqual(reference.write_case(n, 0, 1, *lists, bytearray(388)).kind, COUNT)
+
+    def test_against_the_text_byte_for_byte(self):
+        found = Counter()
+        for _, text, places in MATRIX_READS:
+            expected = 1 if places < 64 else matrix_or_refusal(text)
+            if isinstance(expected, int):
+                self.refused(text, expected, places)
+                found[expected] += 1
+                continue
+            n, entries = expected
+            rows = [entries[row, column] for row in range(1, n + 1) for column in range(1, n + 1)]
+            self.assertEqual(self.read(text, places), rows)
+            found[f"n {n}"] += 1
+        self.assertGreaterEqual(len(MATRIX_READS), 800)
+        self.assertEqual(set(found), {1, 11, 12, *(f"n {n}" for n in range(1, 9))})
+        self.assertGreaterEqual(min(found[11], found[12]), 300)
+        self.assertGreaterEqual(min(found.values()), 15)
+
+
+class MatrixWriting(unittest.TestCase):
+    """Document 02, "Matrix Market files": writing."""
+
+    def write(self, n, coefficients, length=496):
+        """The text, with the bytes beyond it as they were."""
+        outcome, buffer = reference.call_write_matrix(n, coefficients, length, 0x5A)
+        self.assertEqual(outcome.kind, COUNT, outcome)
+        self.assertEqual(buffer[outcome.number:], b"\x5a" * (length - outcome.number))
+        return buffer[:outcome.number]
+
+    def refused(self, n, coefficients, length, number):
+        outcome, buffer = reference.call_write_matrix(n, coefficients, length, 0x5A)
+        self.assertEqual((outcome, buffer), (Outcome(REFUSAL, number), b"\x5a" * length))
+
+    def test_text(self):
+        text = b"%%MatrixMarket matrix array integer general\n2 2\n1\n30\n-2\n0\n"
+        self.assertEqual(self.write(2, [1, -2, 30, 0], 600), text)
+        self.assertEqual(self.write(1, [-32_767]), matrix_calls.text_of(1, [b"-32767"]))
+
+    def test_longest(self):
+        self.assertEqual(len(self.write(8, [-32_767] * 64)), 496)
+        self.assertEqual(len(self.write(8, [-10_000] * 64)), 496)
+        self.assertEqual(len(self.write(8, [-10_000] * 63 + [32_767])), 495)
+        self.assertEqual(max(len(self.write(n, [-32_767] * (n * n))) for n in range(1, 9)), 496)
+        self.assertEqual(len(self.write(1, [0])), 50)
+
+    def test_every_figure(self):
+        for figure in range(-32_767, 32_768, 3):
+            self.assertEqual(self.write(1, [figure]), matrix_written(1, [figure]))
+
+    def test_round_trip(self):
+        stream = Stream(112)
+        for n in range(1, 9):
+            for size in (0, 1, 9, 10, 999, 32_767):
+                coefficients = stream.list(n * n, -size, size)
+                given = list(range(64, 64 + 70))
+                text = self.write(n, coefficients, 700)
+                self.assertEqual(reference.read_matrix(text, given), Outcome(COUNT, n))
+                self.assertEqual(given, coefficients + list(range(64 + n * n, 64 + 70)))
+
+    def test_order_of_refusals(self):
+        for n, coefficients, length, number in (
+            (9, [-32_768], 495, 1), (2, [1] * 4, 495, 1), (1, [1], 0, 1),
+            (9, [-32_768], 496, 6), (9, [1] * 81, 496, 6), (0, [], 496, 6), (0, [1], 496, 6), (-1, [1], 496, 6),
+            (256, [], 496, 6), (2 ** 32, [], 496, 6), (2 ** 63, [], 496, 6),
+            (2, [-32_768], 496, 4), (2, [1] * 5, 496, 4), (2, [], 496, 4), (1, [], 496, 4),
+            (8, [1] * 63, 496, 4), (2, [1, 1, 1, -32_768], 496, 6), (2, [32_768, 1, 1, 1], 496, 6),
+        ):
+            self.refused(n, coefficients, length, number)
+
+    def test_against_the_text_built_up(self):
+        found = Counter()
+        for n, coefficients, length in MATRIX_WRITES:
+            due = n * n == len(coefficients)
+            number = 1 if length < 496 else 6 if n not in range(1, 9) else 4 if not due else 6
+            if number == 6 and due and n in range(1, 9) and max(map(abs, coefficients)) <= 32_767:
+                self.assertEqual(self.write(n, coefficients, length), matrix_written(n, coefficients))
+                found[f"n {n}"] += 1
+            else:
+                self.refused(n, coefficients, length, number)
+                found[number] += 1
+        self.assertGreaterEqual(len(MATRIX_WRITES), 200)
+        self.assertEqual(set(found), {1, 4, 6, *(f"n {n}" for n in range(1, 9))})
+        self.assertGreaterEqual(min(found.values()), 10)
+
+
 class Changes(unittest.TestCase):
     def test_every_record(self):
         met_rows = 0
@@ -867,6 +1155,22 @@ class StoredForms(unittest.TestCase):
         buffer = bytearray(b"\xa5" * stored.number())
         self.agrees(reference.write_case(*head, *lists, buffer), buffer, stored)
 
+    def check_matrix_read(self, stored):
+        text = stored.sized()
+        self.assertLessEqual(len(text), 600)
+        places = stored.number()
+        self.assertLessEqual(places, 80)
+        outcome, coefficients = reference.call_read_matrix(text, places, -0x5A5B)
+        refused, number = stored.number(1) == 1, stored.number()
+        self.assertEqual((outcome.kind == REFUSAL, outcome.number), (refused, number))
+        count = 0 if refused else number ** 2
+        due = [int.from_bytes(stored.take(2), "big", signed=True) for _ in range(count)]
+        self.assertEqual(coefficients, due + [-0x5A5B] * (places - count))
+
+    def check_matrix_write(self, stored):
+        n, coefficients = stored.number(), stored.figures(2, True)
+        self.agrees(*reference.call_write_matrix(n, coefficients, stored.number()), stored)
+
     def test_vectors_parse(self):
         self.each("vectors.bin", self.check_vector, 3000)
 
@@ -879,8 +1183,14 @@ class StoredForms(unittest.TestCase):
     def test_soundings_parse(self):
         self.each("soundings.bin", self.check_soundings, 700)
 
+    def test_matrix_reads_parse(self):
+        self.each("matrix_reads.bin", self.check_matrix_read, 800)
+
+    def test_matrix_writes_parse(self):
+        self.each("matrix_writes.bin", self.check_matrix_write, 200)
+
     def test_sizes(self):
-        self.assertLess(sum(len(content) for content in self.files.values()), 2_000_000)
+        self.assertLess(sum(len(content) for content in self.files.values()), 2_300_000)
 
     def test_samples_parse(self):
         for name, content in samples.make_files().items():
@@ -896,6 +1206,14 @@ def results(inputs):
 
 def depths_left(inputs):
     return [reference.call_soundings(data, length) for data, length in inputs]
+
+
+def matrices_read(inputs):
+    return [reference.call_read_matrix(text, places, -0x5A5B) for _, text, places in inputs]
+
+
+def matrices_written(calls):
+    return [reference.call_write_matrix(*call) for call in calls]
 
 
 class Caught:
@@ -1100,6 +1418,184 @@ class SoundingMistakes(Caught, unittest.TestCase):
         self.caught("depth_bytes", met_only)
         self.caught("kept_trial", lambda trials: trials[0])
         self.caught("kept_trial", lambda trials: trials[-1])
+
+
+def with_limits(name, lowest, highest):
+    """The limits of the figures, of which one has others."""
+    return reference.FIGURES | {name: reference.FIGURES[name]._replace(lowest=lowest, highest=highest)}
+
+
+class MatrixReadingMistakes(Caught, unittest.TestCase):
+    """Mistakes in reading Matrix Market files, over the stored calls."""
+
+    results = staticmethod(matrices_read)
+
+    @classmethod
+    def setUpClass(cls):
+        cls.inputs = MATRIX_READS
+        cls.right = matrices_read(cls.inputs)
+
+    def forms(self, name, *wrong):
+        for form in wrong:
+            self.caught(name, re.compile(form))
+
+    def test_order_of_the_entries(self):
+        self.caught("turned", lambda figures, n: figures)
+        self.caught("turned", lambda figures, n: figures[::-1])
+
+    def test_entries(self):
+        self.forms("ENTRY_LINE", rb"-?[0-9]{1,6}", rb"-?[0-9]{1,4}", rb"[-+]?[0-9]{1,5}", rb"[0-9]{1,5}",
+                   rb" *-?[0-9]{1,5}", rb"-?[0-9]{1,5} *", rb"-?[0-9]{1,5}\r?", rb"-?(0|[1-9][0-9]{0,4})",
+                   rb"(?!-0+$)-?[0-9]{1,5}", rb"-?[0-9]{1,5}|-?0+[0-9]{1,5}")
+        for lowest, highest in ((-32_768, 32_767), (-32_767, 32_768), (-32_766, 32_767), (-32_767, 32_766)):
+            self.caught("FIGURES", with_limits("A", lowest, highest))
+
+    def test_wrapped_figures(self):
+        def wrapped(line):
+            if not reference.ENTRY_LINE.fullmatch(line):
+                raise reference.Refused(12)
+            return (int(line) + 2 ** 15) % 2 ** 16 - 2 ** 15
+
+        self.caught("take_entry", wrapped)
+
+    def test_size_line(self):
+        self.forms("SIZE_LINE", rb"([0-9]) ([0-9])", rb"([0-9]) *([0-9])", rb" *([0-9]) +([0-9])",
+                   rb"([0-9]) +([0-9]) *", rb"([0-9])[ \t]+([0-9])", rb"([0-9]) +([0-9])\r?",
+                   rb"0?([0-9]) +0?([0-9])", rb"([0-9]) +([0-9]).*")
+        for lowest, highest in ((0, 8), (1, 9), (2, 8), (1, 7)):
+            self.caught("FIGURES", with_limits("n", lowest, highest), 1)
+
+    def test_first_line(self):
+        for line in (reference.FIRST_LINE.lower(), reference.FIRST_LINE.replace(b"array", b"coordinate")):
+            self.caught("FIRST_LINE", line)
+
+    def test_comments(self):
+        self.caught("is_comment", lambda line: False)
+        self.caught("is_comment", lambda line: line.strip().startswith(b"%"))
+        self.caught("is_comment", lambda line: line.startswith((b"%", b"#")))
+        self.caught("is_comment", lambda line: line.startswith(b"%") or not line)
+        self.caught("is_comment", lambda line: line.startswith(b"% "))
+        self.caught("is_comment", lambda line: line.startswith(b"%") and not line.endswith(b"\r"))
+
+    def test_lines(self):
+        right = reference.split_lines
+
+        def unended(text):
+            lines, rest = right(text)
+            return (lines + [rest], b"") if rest else (lines, rest)
+
+        def carriage_returns(text):
+            return right(text.replace(b"\r\n", b"\n"))
+
+        def blank_lines(text):
+            lines, rest = right(text)
+            return [line for line in lines if line], rest
+
+        self.caught("split_lines", unended)
+        self.caught("split_lines", carriage_returns)
+        self.caught("split_lines", blank_lines)
+        self.caught("split_lines", lambda text: right(text.rstrip(b"\0")))
+        self.caught("split_lines", lambda text: right(text.rstrip() + b"\n"))
+
+    def test_ends(self):
+        right = reference.take_entries
+        self.caught("take_entries", lambda lines, rest, n: right(lines, b"", n))
+        self.caught("take_entries", lambda lines, rest, n: right(lines[:n * n], rest, n))
+        self.caught("take_entries", lambda lines, rest, n: right(
+            [line for line in lines if not line.startswith(b"%")], rest, n))
+        self.caught("take_entries", lambda lines, rest, n: right(
+            lines + [b"0"] * (n * n - len(lines)), rest, n))
+
+    def test_numbers(self):
+        right = reference.take_size
+
+        def twelve(line):
+            try:
+                return right(line)
+            except reference.Refused:
+                raise reference.Refused(12) from None
+
+        self.caught("take_size", twelve)
+
+    def test_list(self):
+        for least in (0, 1, 63, 65):
+            self.caught("LEAST_PLACES", least)
+
+    def test_text_before_list(self):
+        right = reference.read_matrix
+
+        def text_first(text, coefficients):
+            outcome = right(text, [0] * 64)
+            return outcome if outcome.kind == REFUSAL else right(text, coefficients)
+
+        self.caught("read_matrix", text_first)
+
+    def test_places_changed(self):
+        right = reference.read_matrix
+
+        def stored_at_once(text, coefficients):
+            for i, line in enumerate(text.split(b"\n")[2:len(coefficients)]):
+                if not reference.ENTRY_LINE.fullmatch(line):
+                    break
+                coefficients[i] = int(line)
+            return right(text, coefficients)
+
+        def cleared(text, coefficients):
+            outcome = right(text, coefficients)
+            if outcome.kind == COUNT:
+                coefficients[outcome.number ** 2:64] = [0] * (64 - outcome.number ** 2)
+            return outcome
+
+        self.caught("read_matrix", stored_at_once)
+        self.caught("read_matrix", cleared)
+
+
+class MatrixWritingMistakes(Caught, unittest.TestCase):
+    """Mistakes in writing Matrix Market files, over the stored calls."""
+
+    results = staticmethod(matrices_written)
+
+    @classmethod
+    def setUpClass(cls):
+        cls.inputs = MATRIX_WRITES
+        cls.right = matrices_written(cls.inputs)
+
+    def test_text(self):
+        right = reference.matrix_text
+        self.caught("turned", lambda figures, n: figures)
+        self.caught("FIRST_LINE", reference.FIRST_LINE + b"\n%")
+        self.caught("matrix_text", lambda n, figures: right(n, [abs(figure) for figure in figures]))
+        self.caught("matrix_text", lambda n, figures: right(n, figures)[:-1])
+        for old, new in ((b"-", b"-0"), (b"\n0\n", b"\n-0\n"), (b"\n0\n", b"\n\n"), (b"\n", b"\r\n"),
+                         (b"2 2", b"2  2"), (b"\n7\n", b"\n07\n"), (b"\n7\n", b"\n+7\n")):
+            self.caught("matrix_text", lambda n, figures: right(n, figures).replace(old, new))
+
+    def test_checks(self):
+        right = reference.writer_refusal
+        for least in (388, 494, 495, 497):
+            self.caught("LEAST_TEXT_BUFFER", least)
+        for name, lowest, highest in (("A", -32_768, 32_767), ("A", -32_767, 32_766), ("A", -32_766, 32_767),
+                                      ("n", 0, 8), ("n", 1, 9), ("n", 1, 255), ("n", 2, 8), ("n", 1, 7)):
+            self.caught("FIGURES", with_limits(name, lowest, highest), 1)
+        self.caught("writer_refusal", lambda head, lists, due, *others: right(
+            head, [lists[0][:due[0]]], due, *others))
+
+    def test_order_of_checks(self):
+        right = reference.writer_refusal
+
+        def count_first(head, lists, due, length, least):
+            wrong = length >= least and len(lists[0]) != due[0]
+            return 4 if wrong else right(head, lists, due, length, least)
+
+        def figures_first(head, lists, due, length, least):
+            wrong = length >= least and -32_768 in lists[0]
+            return 6 if wrong else right(head, lists, due, length, least)
+
+        def buffer_last(head, lists, due, length, least):
+            return right(head, lists, due, least, least) or right(head, lists, due, length, least)
+
+        for wrong in (count_first, figures_first, buffer_last):
+            self.caught("writer_refusal", wrong)
 
 
 if __name__ == "__main__":

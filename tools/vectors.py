@@ -1,11 +1,11 @@
 #!/usr/bin/env python3
-"""Test vectors from the reference: results, printed verdicts, written cases and soundings.
+"""Test vectors from the reference: results, printed verdicts, written cases, soundings, Matrix Market files.
 
-    python3 tools/vectors.py DIR           make the four files in DIR
+    python3 tools/vectors.py DIR           make the six files in DIR
     python3 tools/vectors.py --check DIR   make them again in memory and compare
     python3 tools/vectors.py --stats       print how many vectors there are of each kind
 
-All numbers are big-endian. Four files, each a stream of items without padding.
+All numbers are big-endian. Six files, each a stream of items without padding.
 
 vectors.bin, one item for each call that takes a case and a result buffer:
     2 bytes  length of the input (0 to 400; FFFF ends the stream, nothing follows)
@@ -44,12 +44,32 @@ the form of vectors.bin:
     2 bytes  the number: the count (2 to 16) or the refusal (1 to 10)
     then     for a count exactly that many bytes, the depths (2 bytes each)
   The buffer holds A5 in every byte before the call, as above.
+
+matrix_reads.bin, one item for each call that reads a Matrix Market file into a list:
+    2 bytes  length of the text (0 to 600; FFFF ends the stream, nothing follows)
+    then     the text
+    2 bytes  how many places the list has (0, 1, 63, 64, 65 or 80)
+    1 byte   kind: 0 a count, 1 a refusal
+    2 bytes  the number: n (1 to 8) or the refusal (1, 11 or 12)
+    then     for a count n × n coefficients (2 bytes, two's complement), row after row
+  Every place of the list holds A5A5 before the call, and so does every place past n × n,
+  or for a refusal every place, after it.
+
+matrix_writes.bin, one item for each call that writes a Matrix Market file:
+    2 bytes  n (FFFF ends the stream, nothing follows)
+    then     1 byte count (at most 80) and the coefficients (2 bytes, two's complement)
+    2 bytes  length of the buffer (0, 1, 50, 495, 496, 497 or 512)
+    1 byte   kind: 0 a count, 1 a refusal
+    2 bytes  the number: the count (50 to 496) or the refusal (1, 4 or 6)
+    then     for a count exactly that many bytes, the text
+  The buffer holds A5 in every byte before the call, as above.
 """
 
 import sys
 from collections import Counter
 
 import families
+import matrix_calls
 import reference
 import sounding_calls
 import stored
@@ -65,23 +85,32 @@ def short(number):
     return number.to_bytes(2, "big")
 
 
-# ---------------------------------------------------------------- the four files
+# ---------------------------------------------------------------- the six files
 
 
-def outcome_bytes(outcome, buffer):
-    """Kind, number and, for a count, the bytes at the buffer's front."""
-    beyond = outcome.number if outcome.kind == reference.COUNT else 0
+def as_many(count):
+    return count
+
+
+def square_bytes(n):
+    """How many bytes n × n coefficients have."""
+    return 2 * n * n
+
+
+def outcome_bytes(outcome, buffer, bytes_left=as_many):
+    """Kind, number and, for a count, the bytes that it leaves at the buffer's front."""
+    beyond = bytes_left(outcome.number) if outcome.kind == reference.COUNT else 0
     assert buffer[beyond:] == bytes([FILL]) * (len(buffer) - beyond)
     kind = 0 if outcome.kind == reference.COUNT else 1
     return bytes([kind]) + short(outcome.number) + buffer[:beyond]
 
 
-def make_calls(call, inputs):
+def make_calls(call, inputs, bytes_left=as_many):
     """An item for each input and buffer length, with what the call leaves."""
     parts = []
     for _, data, length in inputs:
         outcome, buffer = call(data, length, FILL)
-        parts.append(short(len(data)) + data + short(length) + outcome_bytes(outcome, buffer))
+        parts.append(short(len(data)) + data + short(length) + outcome_bytes(outcome, buffer, bytes_left))
     return b"".join(parts) + END_MARK
 
 
@@ -111,16 +140,39 @@ def written(call):
     return outcome, bytes(buffer)
 
 
+def list_bytes(figures, width):
+    """A count in one byte, and the figures."""
+    assert len(figures) <= 80
+    return bytes([len(figures)]) + families.numbers(figures, width)
+
+
 def make_writes():
     parts = []
     for call in write_calls.all_calls():
         n, e, rounds, lists, length = call
-        given = [bytes([n, e, rounds])]
-        for figures, width in zip(lists, WIDTHS, strict=True):
-            given.append(bytes([len(figures)]) + families.numbers(figures, width))
-        assert given[0][:2] != END_MARK and max(len(figures) for figures in lists) <= 80
-        parts.append(b"".join(given) + short(length) + outcome_bytes(*written(call)))
+        head = bytes([n, e, rounds])
+        assert head[:2] != END_MARK
+        given = [list_bytes(figures, width) for figures, width in zip(lists, WIDTHS, strict=True)]
+        parts.append(head + b"".join(given) + short(length) + outcome_bytes(*written(call)))
     return b"".join(parts) + END_MARK + b"\xff"
+
+
+def read_matrix(text, places, fill):
+    """The outcome of reading for a text, and the list afterwards as bytes, each of which was filled before."""
+    assert len(text) <= 600 and places <= 80
+    filled = int.from_bytes(bytes([fill, fill]), "big", signed=True)
+    outcome, coefficients = reference.call_read_matrix(text, places, filled)
+    return outcome, families.numbers(coefficients, 2)
+
+
+def make_matrix_writes():
+    parts = []
+    for n, coefficients, length in matrix_calls.all_writes():
+        assert short(n) != END_MARK
+        outcome, buffer = reference.call_write_matrix(n, coefficients, length, FILL)
+        given = short(n) + list_bytes(coefficients, 2) + short(length)
+        parts.append(given + outcome_bytes(outcome, buffer))
+    return b"".join(parts) + END_MARK
 
 
 def make_files():
@@ -130,6 +182,8 @@ def make_files():
         "texts.bin": make_texts(inputs),
         "writes.bin": make_writes(),
         "soundings.bin": make_calls(reference.call_soundings, sounding_calls.all_calls()),
+        "matrix_reads.bin": make_calls(read_matrix, matrix_calls.all_reads(), square_bytes),
+        "matrix_writes.bin": make_matrix_writes(),
     }
 
 
@@ -193,12 +247,12 @@ def kinds(data, length):
     return found + (families.trial_kinds(data) if result.case.rounds else [])
 
 
+def outcome_kind(outcome):
+    return "count" if outcome.kind == reference.COUNT else f"refusal {outcome.number}"
+
+
 def write_kinds():
-    found = Counter()
-    for call in write_calls.all_calls():
-        outcome, _ = written(call)
-        found["count" if outcome.kind == reference.COUNT else f"refusal {outcome.number}"] += 1
-    return found
+    return Counter(outcome_kind(written(call)[0]) for call in write_calls.all_calls())
 
 
 def figure_kinds(figure, d):
@@ -242,6 +296,26 @@ def sounding_kinds(data, length):
     return ["count", f"count, {came}, {verdict}", f"count, n {case.n}", f"count, D {d}", *found, *apart]
 
 
+def matrix_read_kinds(text, places):
+    """The kinds under which one call of reading a matrix is counted."""
+    outcome, coefficients = reference.call_read_matrix(text, places, 0)
+    kind = outcome_kind(outcome)
+    if outcome.kind == reference.REFUSAL:
+        return [kind]
+    n = outcome.number
+    wider = text != reference.matrix_text(n, coefficients[:n * n])
+    return [kind, f"{kind}, n {n}", f"{kind}, {'wider than' if wider else 'as'} the writer's text"]
+
+
+def matrix_write_kinds():
+    found = Counter()
+    for n, coefficients, length in matrix_calls.all_writes():
+        outcome, _ = reference.call_write_matrix(n, coefficients, length, FILL)
+        kind = outcome_kind(outcome)
+        found.update([kind] if outcome.kind == reference.REFUSAL else [kind, f"{kind}, n {n}"])
+    return found
+
+
 def print_counts(title, counts):
     print(title)
     for kind, count in sorted(counts.items()):
@@ -260,11 +334,12 @@ def print_calls(title, inputs, kinds_of):
 def print_stats():
     inputs = families.all_families()
     texts = [reference.verdict_text(data) for data in text_inputs(inputs)]
-    written_kinds = write_kinds()
     print_calls("vectors", inputs, kinds)
     print_calls("calls of the soundings", sounding_calls.all_calls(), sounding_kinds)
     print_counts(f"texts, {len(texts)}, by first word", Counter(text.split()[0] for text in texts))
-    print_counts(f"calls of the writer, {sum(written_kinds.values())}", written_kinds)
+    print_counts(f"calls of the writer, {len(write_calls.all_calls())}", write_kinds())
+    print_calls("calls of reading a matrix", matrix_calls.all_reads(), matrix_read_kinds)
+    print_counts(f"calls of writing a matrix, {len(matrix_calls.all_writes())}", matrix_write_kinds())
     return 0
 
 

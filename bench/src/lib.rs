@@ -8,6 +8,7 @@ pub mod corners;
 pub mod entries;
 pub mod figures;
 pub mod inputs;
+pub mod matrices;
 pub mod pool;
 pub mod random;
 pub mod spoiling;

@@ -7,14 +7,7 @@ use crate::random::Random;
 pub fn spoiled(figures: &Figures, random: &mut Random) -> Vec<u8> {
     let mut bytes = figures.encode();
     match random.below(12) {
-        0 => bytes.truncate(random.below(bytes.len())),
-        1 => *any_byte(&mut bytes, random) = random.byte(),
-        2 => *any_byte(&mut bytes, random) ^= 1 << random.below(8),
-        3 => bytes.insert(
-            random.below(bytes.len() + 1),
-            random.pick(&[0, 1, 2, 3, 0xFF]),
-        ),
-        4 => drop(bytes.remove(random.below(bytes.len()))),
+        0..5 => spoil_byte(&mut bytes, &[0, 1, 2, 3, 0xFF], random),
         5 => append(&mut bytes, random),
         6 => change_tag(&mut bytes, random),
         7 => change_length(&mut bytes, random),
@@ -24,6 +17,17 @@ pub fn spoiled(figures: &Figures, random: &mut Random) -> Vec<u8> {
         _ => return noise(random),
     }
     bytes
+}
+
+/// Changes, inserts or removes a byte, or cuts off what begins there. Inserted bytes are chosen from those that have a meaning.
+pub fn spoil_byte(bytes: &mut Vec<u8>, meaningful: &[u8], random: &mut Random) {
+    match random.below(5) {
+        0 => bytes.truncate(random.below(bytes.len())),
+        1 => *any_byte(bytes, random) = random.byte(),
+        2 => *any_byte(bytes, random) ^= 1 << random.below(8),
+        3 => bytes.insert(random.below(bytes.len() + 1), random.pick(meaningful)),
+        _ => drop(bytes.remove(random.below(bytes.len()))),
+    }
 }
 
 fn any_byte<'a>(bytes: &'a mut [u8], random: &mut Random) -> &'a mut u8 {

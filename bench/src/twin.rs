@@ -1,7 +1,8 @@
-//! Judge and soundings in plain Rust: the same bytes in, the same record, depths or refusal out, and no proof.
+//! The calls in plain Rust: the same bytes or figures in, the same record, depths, matrix or refusal out, and no proof.
 
 mod elimination;
 mod judging;
+mod matrix;
 mod reading;
 mod record;
 mod refinement;
@@ -24,10 +25,14 @@ pub const TRAILING_BYTES: Refusal = 7;
 pub const ZERO_PIVOT: Refusal = 8;
 pub const OUTSIDE_RANGE: Refusal = 9;
 pub const OUTSIDE_TABLE: Refusal = 10;
+pub const WRONG_MATRIX_HEADER: Refusal = 11;
+pub const WRONG_MATRIX_ENTRY: Refusal = 12;
 
 pub const MOST_TANKS: usize = 8;
 pub const RECORD_ROOM: usize = record::length(MOST_TANKS);
 pub const SOUNDINGS_ROOM: usize = soundings::length(MOST_TANKS);
+pub const MATRIX_ROOM: usize = matrix::ROOM;
+pub const MATRIX_PLACES: usize = matrix::PLACES;
 
 /// Reads the case and returns its number of tanks.
 // Never inlined, like the next ones: the library's functions are calls too.
@@ -68,4 +73,24 @@ pub fn soundings(input: &[u8], out: &mut [u8]) -> Result<usize, Refusal> {
     let mut answer = Answer::start(&case);
     answer.refine(&case)?;
     soundings::write(&answer.figures[..case.n], case.unit, out)
+}
+
+/// Leaves the coefficients of a Matrix Market text at the front of `places`, row after row, and returns their n. A refusal leaves `places`
+/// as it was.
+#[inline(never)]
+pub fn read_matrix(text: &[u8], places: &mut [i16]) -> Result<usize, Refusal> {
+    if places.len() < MATRIX_PLACES {
+        return Err(BUFFER_TOO_SHORT);
+    }
+    matrix::read(text, places)
+}
+
+/// Leaves the Matrix Market text of these coefficients, row after row, at the front of `out` and returns its length. A refusal leaves `out`
+/// as it was.
+#[inline(never)]
+pub fn write_matrix(n: usize, coefficients: &[i16], out: &mut [u8]) -> Result<usize, Refusal> {
+    if out.len() < MATRIX_ROOM {
+        return Err(BUFFER_TOO_SHORT);
+    }
+    matrix::write(n, coefficients, out)
 }

@@ -1,7 +1,8 @@
-//! The twin against document 01's trials at the edges, document 02's reference tank and the repository's samples.
+//! The twin against document 01's trials at the edges, document 02's reference tank and Matrix Market files, and the repository's samples.
 
 use bench::figures::Figures;
-use bench::twin::{check_case, judge_case, soundings, MOST_TANKS, RECORD_ROOM, SOUNDINGS_ROOM};
+use bench::twin::{check_case, judge_case, read_matrix, soundings, write_matrix};
+use bench::twin::{MATRIX_PLACES, MATRIX_ROOM, MOST_TANKS, RECORD_ROOM, SOUNDINGS_ROOM};
 use std::fmt::Write;
 use std::fs;
 use std::path::Path;
@@ -489,4 +490,220 @@ fn a_later_tank_outside_the_table_leaves_the_buffer() {
     assert_eq!(soundings(&brought(0, &[7, 5, 520]), &mut out), Ok(6));
     assert_eq!(out[..6], [0, 7, 0, 5, 1, 0x90]);
     assert_eq!(out[6..], [0xA5; 26]);
+}
+
+const FIRST_LINE: &str = "%%MatrixMarket matrix array integer general\n";
+/// What every place of a list holds before a call.
+const PLACE_FILL: i16 = -0x5A5B;
+
+/// The coefficients of a text, row after row. Places beyond them, and all after a refusal, are as they were.
+fn matrix(text: &[u8]) -> Result<Vec<i16>, u8> {
+    let mut places = [PLACE_FILL; MATRIX_PLACES + 1];
+    let outcome = read_matrix(text, &mut places);
+    let (read, beyond) = places.split_at(outcome.map_or(0, |n| n * n));
+    assert!(beyond.iter().all(|&place| place == PLACE_FILL));
+    outcome.map(|_| read.to_vec())
+}
+
+fn written(n: usize, coefficients: &[i16]) -> Result<Vec<u8>, u8> {
+    let mut out = [0xA5; MATRIX_ROOM + 1];
+    let outcome = write_matrix(n, coefficients, &mut out);
+    let (text, beyond) = out.split_at(outcome.unwrap_or(0));
+    assert!(beyond.iter().all(|&byte| byte == 0xA5));
+    outcome.map(|_| text.to_vec())
+}
+
+/// Holds the text with this behind its first line to what is due.
+fn check_behind_first_line(rest: &str, expected: Result<&[i16], u8>) {
+    let text = FIRST_LINE.to_string() + rest;
+    let expected = expected.map(<[i16]>::to_vec);
+    assert_eq!(matrix(text.as_bytes()), expected, "{rest:?}");
+}
+
+#[test]
+fn matrices_as_the_format_allows_them() {
+    for (rest, coefficients) in [
+        ("1 1\n5\n", &[5][..]),
+        ("2 2\n1\n2\n3\n4\n", &[1, 3, 2, 4]),
+        ("%\n1 1\n5\n", &[5]),
+        ("% a\r\n%%b%\n%1 1\n1 1\n5\n", &[5]),
+        ("1     1\n5\n", &[5]),
+        ("1 1\n-0\n", &[0]),
+        ("1 1\n-00000\n", &[0]),
+        ("1 1\n007\n", &[7]),
+        ("1 1\n00007\n", &[7]),
+        ("1 1\n-00007\n", &[-7]),
+        ("1 1\n32767\n", &[32_767]),
+        ("1 1\n-32767\n", &[-32_767]),
+    ] {
+        check_behind_first_line(rest, Ok(coefficients));
+    }
+}
+
+#[test]
+fn wrong_first_lines() {
+    for line in [
+        "",
+        "\n",
+        "%%MatrixMarket matrix array integer general",
+        "%%MatrixMarket matrix array integer general \n",
+        "%%MatrixMarket matrix array integer general\r\n",
+        "%%MatrixMarket matrix array integer genera\n",
+        "%%MatrixMarket matrix array integer General\n",
+        "%%MatrixMarket  matrix array integer general\n",
+        "%%MatrixMarket matrix array integer symmetric\n",
+        "%%MatrixMarket matrix array real general\n",
+        "%%MatrixMarket matrix coordinate integer general\n",
+        " %%MatrixMarket matrix array integer general\n",
+        "\n%%MatrixMarket matrix array integer general\n",
+        "%MatrixMarket matrix array integer general\n",
+        "%\n%%MatrixMarket matrix array integer general\n",
+    ] {
+        let text = line.to_string() + "1 1\n5\n";
+        assert_eq!(matrix(text.as_bytes()), Err(11), "{line:?}");
+    }
+}
+
+#[test]
+fn wrong_size_lines() {
+    for rest in [
+        "",
+        "1 1",
+        "% 1 1",
+        "%\n",
+        "\n1 1\n5\n",
+        "\n%\n1 1\n5\n",
+        "11\n5\n",
+        "1\n5\n",
+        "1 1 1\n5\n",
+        "1\t1\n5\n",
+        " 1 1\n5\n",
+        "1 1 \n5\n",
+        "1 1\r\n5\n",
+        "01 1\n5\n",
+        "1 01\n5\n",
+        "-1 -1\n5\n",
+        "1 2\n5\n5\n",
+        "2 1\n5\n5\n",
+        "0 0\n",
+        "9 9\n5\n",
+        "/ /\n5\n",
+        ": :\n5\n",
+        "% 1\n",
+    ] {
+        check_behind_first_line(rest, Err(11));
+    }
+}
+
+#[test]
+fn wrong_entries() {
+    for entry in [
+        "", "-", "--1", "+1", " 1", "1 ", "1\r", "1\t", "1.", "1e1", "- 1", "1-", "/", ":", "a",
+        "\0", "%", "% a", "32768", "-32768", "99999", "000007", "-000000", "100000", "65537",
+    ] {
+        check_behind_first_line(&format!("1 1\n{entry}\n"), Err(12));
+        check_behind_first_line(&format!("2 2\n1\n2\n3\n{entry}\n"), Err(12));
+        check_behind_first_line(&format!("2 2\n1\n{entry}\n3\n4\n"), Err(12));
+    }
+}
+
+#[test]
+fn entries_missing_or_too_many() {
+    for rest in [
+        "1 1\n",
+        "1 1\n5",
+        "2 2\n1\n2\n3\n",
+        "2 2\n1\n2\n3\n4",
+        "1 1\n5\n5\n",
+        "1 1\n5\n5",
+        "1 1\n5\n\n",
+        "1 1\n5\n%\n",
+        "1 1\n5\n ",
+        "1 1\n5\n\0",
+        "1 1\n%\n5\n",
+        "2 2\n1\n2\n%\n3\n4\n",
+        "2 2\n1 3\n2 4\n",
+    ] {
+        check_behind_first_line(rest, Err(12));
+    }
+}
+
+/// Coefficients of n tanks, no two alike, with the limits at both ends.
+fn growing(n: usize) -> Vec<i16> {
+    let mut coefficients: Vec<i16> = (0..).map(|i| 7 * i * i - 400).take(n * n).collect();
+    coefficients[n * n - 1] = 32_767;
+    coefficients[0] = -32_767;
+    coefficients
+}
+
+#[test]
+fn what_is_written_is_read() {
+    for n in 1..=MOST_TANKS {
+        let coefficients = growing(n);
+        let text = written(n, &coefficients).unwrap();
+        assert_eq!(matrix(&text), Ok(coefficients));
+    }
+}
+
+#[test]
+fn a_text_cut_short() {
+    let text = written(3, &growing(3)).unwrap();
+    let header = FIRST_LINE.len() + "3 3\n".len();
+    for length in 0..text.len() {
+        let refusal = if length < header { 11 } else { 12 };
+        assert_eq!(matrix(&text[..length]), Err(refusal), "{length}");
+    }
+}
+
+#[test]
+fn written_texts() {
+    let text = b"%%MatrixMarket matrix array integer general\n2 2\n0\n-7\n10\n-32767\n";
+    assert_eq!(written(2, &[0, 10, -7, -32_767]), Ok(text.to_vec()));
+    let longest = written(8, &[-32_767; 64]).unwrap();
+    assert_eq!((longest.len(), MATRIX_ROOM), (496, 496));
+}
+
+#[test]
+fn matrices_are_read_into_64_places() {
+    let text = written(1, &[5]).unwrap();
+    for count in 0..MATRIX_PLACES {
+        let mut places = [PLACE_FILL; MATRIX_PLACES];
+        assert_eq!(read_matrix(&text, &mut places[..count]), Err(1));
+        assert_eq!(read_matrix(&[], &mut places[..count]), Err(1));
+        assert_eq!(places, [PLACE_FILL; MATRIX_PLACES]);
+    }
+    assert_eq!(read_matrix(&text, &mut [0; MATRIX_PLACES]), Ok(1));
+}
+
+#[test]
+fn writing_a_matrix_is_refused_in_order() {
+    for (n, coefficients, room, expected) in [
+        (0, &[-32_768; 2][..], 495, 1),
+        (2, &[1; 4], 0, 1),
+        (0, &[-32_768; 2], 496, 6),
+        (0, &[], 496, 6),
+        (9, &[1; 81], 496, 6),
+        (usize::MAX, &[], 496, 6),
+        (2, &[-32_768; 3], 496, 4),
+        (2, &[1; 5], 496, 4),
+        (8, &[], 496, 4),
+        (2, &[1, 2, 3, -32_768], 496, 6),
+    ] {
+        let mut out = [0xA5; MATRIX_ROOM];
+        let outcome = write_matrix(n, coefficients, &mut out[..room]);
+        assert_eq!(outcome, Err(expected), "{n}, {coefficients:?}, {room}");
+        assert_eq!(out, [0xA5; MATRIX_ROOM]);
+    }
+}
+
+#[test]
+fn the_sample_of_a_matrix() {
+    let folder = Path::new(env!("CARGO_MANIFEST_DIR")).join("../samples");
+    let found = matrix(&fs::read(folder.join("three-tanks.mtx")).unwrap()).unwrap();
+    let rows = fs::read_to_string(folder.join("three-tanks.rows")).unwrap();
+    let due: Vec<i16> = rows
+        .split_whitespace()
+        .map(|word| word.parse().unwrap())
+        .collect();
+    assert_eq!(found, due);
 }

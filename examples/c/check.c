@@ -17,6 +17,12 @@ _Static_assert(BALLAST_RECORD_LENGTH(5) == BALLAST_DECIDES_AT(5) + 1 + 3, "the e
 _Static_assert(BALLAST_SOUNDINGS_ROOM == BALLAST_DEPTH_AT(BALLAST_MOST_TANKS), "a depth for each of the most tanks");
 _Static_assert(BALLAST_CASE_ROOM == 6 + BALLAST_MOST_TANKS * (11 + 4 * BALLAST_MOST_TANKS) + (3 + 4 * BALLAST_MOST_TANKS) + 3, "the longest case");
 
+#define FIRST_LINE "%%MatrixMarket matrix array integer general\n"
+#define CHARACTERS(text) (sizeof text - 1)
+_Static_assert(BALLAST_MATRIX_PLACES == BALLAST_MOST_TANKS * BALLAST_MOST_TANKS, "a place for each coefficient of the most tanks");
+_Static_assert(BALLAST_MATRIX_ROOM == CHARACTERS(FIRST_LINE) + CHARACTERS("8 8\n") + BALLAST_MATRIX_PLACES * CHARACTERS("-32767\n"),
+               "the longest matrix text");
+
 enum { ROOM = 1000, FILLER = 0xA5 };
 
 static int failures;
@@ -37,11 +43,23 @@ static int untouched(const uint8_t *buffer, size_t from)
     return 1;
 }
 
+static int untouched_places(const int16_t *list, size_t from)
+{
+    return untouched((const uint8_t *)list, from * sizeof *list);
+}
+
 static uint8_t *fresh(void)
 {
     static uint8_t buffer[ROOM];
     memset(buffer, FILLER, sizeof buffer);
     return buffer;
+}
+
+static int16_t *fresh_list(void)
+{
+    static int16_t list[ROOM / sizeof(int16_t)];
+    memset(list, FILLER, sizeof list);
+    return list;
 }
 
 /* One tank, e = 1, K = 1: 5 x = -2. */
@@ -131,6 +149,70 @@ static void check_soundings(void)
     expect(untouched(out, sizeof depths), "bytes beyond the depths stay in it too");
 }
 
+static int64_t read_matrix(const char *text, int16_t *list)
+{
+    return ballast_read_matrix((const uint8_t *)text, strlen(text), list, BALLAST_MATRIX_PLACES);
+}
+
+static void check_refused_matrices(void)
+{
+    static const char *const headers[] = {"", "%%MatrixMarket matrix array integer symmetric\n1 1\n5\n", FIRST_LINE, FIRST_LINE "% 1 1",
+                                          FIRST_LINE "1 1", FIRST_LINE "\n1 1\n5\n", FIRST_LINE "1 1\r\n5\n", FIRST_LINE "1 2\n5\n5\n",
+                                          FIRST_LINE "11\n5\n", FIRST_LINE "0 0\n", FIRST_LINE "9 9\n5\n"};
+    static const char *const entries[] = {FIRST_LINE "1 1\n", FIRST_LINE "1 1\n5", FIRST_LINE "1 1\n5\n\n", FIRST_LINE "1 1\n5\n5\n",
+                                          FIRST_LINE "1 1\n%\n5\n", FIRST_LINE "1 1\n+5\n", FIRST_LINE "1 1\n000005\n", FIRST_LINE "1 1\n32768\n",
+                                          FIRST_LINE "1 1\n-32768\n", FIRST_LINE "2 2\n1\n2\n3\n"};
+    int16_t *list = fresh_list();
+    for (size_t i = 0; i < sizeof headers / sizeof *headers; i++)
+        expect(read_matrix(headers[i], list) == BALLAST_WRONG_MATRIX_HEADER, headers[i]);
+    for (size_t i = 0; i < sizeof entries / sizeof *entries; i++)
+        expect(read_matrix(entries[i], list) == BALLAST_WRONG_MATRIX_ENTRY, entries[i]);
+    expect(ballast_read_matrix(NULL, 0, list, BALLAST_MATRIX_PLACES) == BALLAST_WRONG_MATRIX_HEADER, "an empty text is refused");
+    expect(ballast_read_matrix(NULL, 0, list, BALLAST_MATRIX_PLACES - 1) == BALLAST_BUFFER_TOO_SHORT, "a list of 63 places is refused first");
+    expect(untouched_places(list, 0), "a refused matrix changes no place");
+}
+
+static void check_matrix_reading(void)
+{
+    static const int16_t coefficients[] = {1, 20, -3, 0};
+    int16_t *list = fresh_list();
+    expect(read_matrix(FIRST_LINE "%\n% 7 7\n2   2\n1\n-00003\n020\n-0\n", list) == 2, "a text of two tanks is read into 64 places");
+    expect(memcmp(list, coefficients, sizeof coefficients) == 0, "the list is row after row, the text column after column");
+    expect(untouched_places(list, 4), "places past n * n stay");
+}
+
+static void check_refused_matrix_writing(void)
+{
+    static const int16_t figures[] = {1, 2, 3, -32768, 5};
+    uint8_t *out = fresh();
+    expect(ballast_write_matrix(0, NULL, 0, out, BALLAST_MATRIX_ROOM - 1) == BALLAST_BUFFER_TOO_SHORT, "a buffer of 495 bytes is refused first");
+    expect(ballast_write_matrix(0, NULL, 0, out, ROOM) == BALLAST_OUTSIDE_LIMITS, "a matrix of no tanks is refused");
+    expect(ballast_write_matrix(9, NULL, 0, out, ROOM) == BALLAST_OUTSIDE_LIMITS, "a matrix of nine tanks is refused");
+    expect(ballast_write_matrix(SIZE_MAX, NULL, 0, out, ROOM) == BALLAST_OUTSIDE_LIMITS, "a matrix of all the tanks that can be counted is refused");
+    expect(ballast_write_matrix(1, NULL, 0, out, ROOM) == BALLAST_WRONG_LENGTH, "an empty list of coefficients is refused");
+    expect(ballast_write_matrix(2, figures, 5, out, ROOM) == BALLAST_WRONG_LENGTH, "five coefficients of two tanks are refused");
+    expect(ballast_write_matrix(2, figures, 4, out, ROOM) == BALLAST_OUTSIDE_LIMITS, "the coefficient -32,768 is refused");
+    expect(untouched(out, 0), "a refused writing of a matrix changes no byte");
+}
+
+static void check_matrix_writing(void)
+{
+    static const char text[] = FIRST_LINE "2 2\n1\n-3\n20\n0\n";
+    static const int16_t coefficients[] = {1, 20, -3, 0};
+    uint8_t *out = fresh();
+    expect(ballast_write_matrix(2, coefficients, 4, out, BALLAST_MATRIX_ROOM) == CHARACTERS(text), "a matrix is written into 496 bytes");
+    expect(memcmp(out, text, CHARACTERS(text)) == 0, "the text of a matrix");
+    expect(untouched(out, CHARACTERS(text)), "bytes beyond the text of a matrix stay");
+    int16_t least[BALLAST_MATRIX_PLACES], *list = fresh_list();
+    for (size_t i = 0; i < BALLAST_MATRIX_PLACES; i++)
+        least[i] = -32767;
+    out = fresh();
+    expect(ballast_write_matrix(8, least, BALLAST_MATRIX_PLACES, out, BALLAST_MATRIX_ROOM) == BALLAST_MATRIX_ROOM, "the longest text has 496 bytes");
+    expect(untouched(out, BALLAST_MATRIX_ROOM), "bytes beyond the longest text stay");
+    expect(ballast_read_matrix(out, BALLAST_MATRIX_ROOM, list, BALLAST_MATRIX_PLACES) == 8 && memcmp(list, least, sizeof least) == 0,
+           "the longest text is read");
+}
+
 static void check_nothing(void)
 {
     expect(ballast_check_case(NULL, 0) == BALLAST_FIELD_MISSING, "no input is refused by reading");
@@ -139,6 +221,8 @@ static void check_nothing(void)
     expect(ballast_verdict_text(NULL, 0, NULL, 0) == BALLAST_BUFFER_TOO_SHORT, "no buffer is refused by printing");
     expect(ballast_write_case(1, 0, 1, NULL, 0, NULL, 0, NULL, 0, NULL, 0, NULL, 0, NULL, 0) == BALLAST_BUFFER_TOO_SHORT,
            "no buffer is refused by writing");
+    expect(ballast_read_matrix(NULL, 0, NULL, 0) == BALLAST_BUFFER_TOO_SHORT, "no list is refused by reading a matrix");
+    expect(ballast_write_matrix(1, NULL, 0, NULL, 0) == BALLAST_BUFFER_TOO_SHORT, "no buffer is refused by writing a matrix");
 }
 
 static size_t read_file(const char *name, uint8_t *into, size_t room)
@@ -171,6 +255,10 @@ int main(int count, char **names)
     check_judging();
     check_refused_soundings();
     check_soundings();
+    check_refused_matrices();
+    check_matrix_reading();
+    check_refused_matrix_writing();
+    check_matrix_writing();
     check_nothing();
     for (int i = 1; i + 1 < count; i += 2)
         check_sample(names[i], names[i + 1]);

@@ -1,6 +1,7 @@
 /* Measures how deep the library's functions reach into the stack: each is called on a painted stack of its own, on every case file named on the
- * command line and on one whose factors take the most steps to compare, and what is no longer painted is counted. Prints the most, and ends with 1 if
- * the header promises less. To be linked with -z now, so that no call stops to look for memcpy. */
+ * command line and on one whose factors take the most steps to compare, those of matrices on the longest text that is written, and what is no longer
+ * painted is counted. Prints the most, and ends with 1 if the header promises less. To be linked with -z now, so that no call stops to look for
+ * memcpy. */
 #define _XOPEN_SOURCE 700
 #include <stdio.h>
 #include <string.h>
@@ -14,6 +15,8 @@ static uint8_t stack[STACK];
 static uint8_t input[BALLAST_CASE_ROOM + 1];
 static size_t input_length;
 static uint8_t out[BALLAST_TEXT_ROOM];
+static int16_t list[BALLAST_MATRIX_PLACES];
+static uint8_t matrix[BALLAST_MATRIX_ROOM];
 static ucontext_t here, there;
 
 static void nothing(void) {}
@@ -21,6 +24,8 @@ static void check(void) { ballast_check_case(input, input_length); }
 static void judge(void) { ballast_judge_case(input, input_length, out, sizeof out); }
 static void sound(void) { ballast_soundings(input, input_length, out, sizeof out); }
 static void print(void) { ballast_verdict_text(input, input_length, out, sizeof out); }
+static void write_matrix(void) { ballast_write_matrix(BALLAST_MOST_TANKS, list, BALLAST_MATRIX_PLACES, matrix, sizeof matrix); }
+static void read_matrix(void) { ballast_read_matrix(matrix, sizeof matrix, list, BALLAST_MATRIX_PLACES); }
 
 /* Rows 1 and 2 have the residuals F60 and F59 and the reaches F61 and F60 of the Fibonacci numbers, the largest that the limits admit: no comparison of
  * factors takes more steps. */
@@ -62,9 +67,16 @@ static size_t most_of_all(size_t so_far)
     return most(most(most(most(so_far, check), judge), sound), print);
 }
 
+static size_t most_of_matrices(size_t so_far)
+{
+    for (size_t i = 0; i < BALLAST_MATRIX_PLACES; i++)
+        list[i] = -32767;
+    return most(most(so_far, write_matrix), read_matrix);
+}
+
 int main(int count, char **names)
 {
-    size_t need = most_of_all(most(0, write));
+    size_t need = most_of_matrices(most_of_all(most(0, write)));
     for (int i = 1; i < count; i++) {
         FILE *file = fopen(names[i], "rb");
         if (file == NULL) {

@@ -13,7 +13,7 @@ const END: u8 = 0xFF;
 const MOST_ROUNDS: u8 = 8;
 /// D, the number of parts that an answer counts in a tonne, for each exponent.
 const UNITS: [i64; 4] = [1, 10, 100, 1000];
-const MOST_COEFFICIENT: u16 = 32_767;
+pub const MOST_COEFFICIENT: u16 = 32_767;
 const MOST_RIGHT_SIDE: u32 = 1_000_000_000;
 /// The limit of every answer figure, brought or worked out.
 pub const MOST_ANSWER: i64 = 10_000_000;

@@ -4,7 +4,7 @@ use lib.IntN.{ℤ}
 use mathlib.Core.List.{List}
 use mathlib.Core.Path.{_≡_, sym, ap, _∙_}
 use native.Mathlib.Omega.{arith}
-use Rattle.outcome.specs.CallResult.{CallResult, callResult}
+use Rattle.outcome.specs.CallResult.{LentResult, callResult}
 use Rattle.outcome.specs.Laws.{no-count}
 use Rattle.outcome.specs.Outcome.{reportedOutcome}
 use Rattle.outcome.specs.declared.Outcome.{Outcome}
@@ -25,6 +25,10 @@ use Rattle.soundings.specs.Soundings.{soundingsResult}
 use Rattle.report.specs.Text.{textRoom}
 use Rattle.verdict_text.specs.Verdict.{textCall}
 use Rattle.verdict_text.specs.VerdictLaws.{text-count-le}
+use Rattle.matrixfile.specs.CallLaws.{matrix-read}
+use Rattle.matrixfile.specs.Read.{readMatrix}
+use Rattle.matrixfile.specs.Text.{writeMatrix}
+use Rattle.matrixfile.specs.TextLaws.{matrix-count-le}
 use Rattle.ballast_c.specs.Calls.{tankCount, Judged}
 use Rattle.ballast_c.specs.Result.{resultNumber, CountFits, Returned}
 use Rattle.ballast_c.specs.ResultLaws.{returned, number-count}
@@ -38,7 +42,7 @@ pub small-count : (k : ℕ) → k ≤ textRoom → CountFits (Count k)
 small-count k h = record { count = λ m e. let q : k ≡ m = cc in omega arith }
 
 -- of a call whose every count is within the largest room
-pub call-small : {exit : List ℕ} {w : CallResult} (o : Outcome) → callResult o exit ≡ w → ((m : ℕ) → w .outcome ≡ reportedOutcome (Count m) → m ≤ textRoom) → CountFits o
+pub call-small : {X : Type 0} {exit : List X} {w : LentResult X} (o : Outcome) → callResult o exit ≡ w → ((m : ℕ) → w .outcome ≡ reportedOutcome (Count m) → m ≤ textRoom) → CountFits o
 call-small o p le = record { count = λ m e. omega (arith, le m (ap (λ x. x .outcome) (sym p) ∙ ap reportedOutcome e)) }
 
 -- ---- reading
@@ -86,3 +90,11 @@ soundings-small input entry exit o p = call-small o p (λ m e. omega (arith, sou
 
 pub text-small : (input entry exit : List ℕ) (o : Outcome) → callResult o exit ≡ textCall input entry → CountFits o
 text-small input entry exit o p = call-small o p (text-count-le input entry)
+
+-- ---- Matrix Market files
+
+pub matrix-read-small : (text : List ℕ) (entry exit : List ℤ) (o : Outcome) → callResult o exit ≡ readMatrix text entry → CountFits o
+matrix-read-small text entry exit o p = call-small o p (λ m e. omega (arith, matrix-read text entry m e .limits .small))
+
+pub matrix-written-small : (n : ℕ) (A : List ℤ) (entry exit : List ℕ) (o : Outcome) → callResult o exit ≡ writeMatrix n A entry → CountFits o
+matrix-written-small n A entry exit o p = call-small o p (λ m e. omega (arith, matrix-count-le n A entry m e))

@@ -5,7 +5,7 @@ use lib.IntN.{ℤ, pos, negsuc, negℤ}
 use mathlib.Core.Bool.{cond}
 use mathlib.Core.List.{List}
 use mathlib.Core.Path.{_≡_}
-use Rattle.outcome.specs.CallResult.{CallResult}
+use Rattle.outcome.specs.CallResult.{LentResult}
 use Rattle.outcome.specs.Outcome.{refusalOf, ReportedOutcome, reportedOutcome}
 use Rattle.outcome.specs.declared.Outcome.{Outcome}
 use Rattle.outcome.specs.declared.Outcome.the-variants.{Count, Refused}
@@ -20,8 +20,8 @@ resultNumber o = reportedNumber (reportedOutcome o)
 pub record CountFits (o : Outcome) : Type 0 where
   pub count : (m : ℕ) → o ≡ Count m → m < 2 ^ 63
 
--- a call's result and its buffer are those of an outcome and the buffer beside it
-pub record Returned (result : ℤ) (exit : List ℕ) (w : CallResult) : Type 0 where
+-- a call's result and its list are those of an outcome and the list beside it
+pub record Returned {X : Type 0} (result : ℤ) (exit : List X) (w : LentResult X) : Type 0 where
   pub is : result ≡ reportedNumber (w .outcome)
   pub buffer : exit ≡ w .buffer
 

@@ -4,14 +4,14 @@ use lib.IntN.{ℤ, pos, negℤ}
 use mathlib.Core.List.{List}
 use mathlib.Core.Path.{_≡_, refl, sym, ap, _∙_}
 use native.Mathlib.Omega.{arith}
-use Rattle.outcome.specs.CallResult.{CallResult, callResult}
+use Rattle.outcome.specs.CallResult.{LentResult, callResult}
 use Rattle.outcome.specs.Laws.{refusal-of-number}
 use Rattle.outcome.specs.Outcome.{numberOf, refusalOf}
 use Rattle.outcome.specs.declared.Outcome.{Outcome}
 use Rattle.outcome.specs.declared.Outcome.the-variants.{Count, Refused}
 use Rattle.ballast_c.specs.Result.{Returned, resultNumber, reportedNumber, outcomeOfResult}
 
-pub returned : (o : Outcome) {exit : List ℕ} {w : CallResult} → callResult o exit ≡ w → (r : ℤ) → r ≡ resultNumber o → Returned r exit w
+pub returned : {X : Type 0} (o : Outcome) {exit : List X} {w : LentResult X} → callResult o exit ≡ w → (r : ℤ) → r ≡ resultNumber o → Returned r exit w
 returned o p r e = record { is = e ∙ ap (λ w. reportedNumber (w .outcome)) p; buffer = ap (λ w. w .buffer) p }
 
 pub outcome-of-number : (o : Outcome) → outcomeOfResult (resultNumber o) ≡ o

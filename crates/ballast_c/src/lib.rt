@@ -5,6 +5,8 @@ ghost use Rattle.casefile.specs.Decode.{decode};
 ghost use Rattle.casefile.specs.Write.{write};
 ghost use Rattle.soundings.specs.Soundings.{soundingsResult};
 ghost use Rattle.verdict_text.specs.Verdict.{textCall};
+ghost use Rattle.matrixfile.specs.Read.{readMatrix};
+ghost use Rattle.matrixfile.specs.Text.{writeMatrix};
 ghost use Rattle.ballast_c.specs.Calls.{tankCount, Judged};
 ghost use Rattle.ballast_c.specs.Result.{resultNumber, CountFits, Returned};
 use limits::MOST_COEFFICIENTS;
@@ -98,4 +100,20 @@ pub extern "C" fn ballast_write_case(
         trial,
         out,
     ))
+}
+
+// Reads a Matrix Market file into a list of coefficients.
+#[no_mangle]
+pub extern "C" fn ballast_read_matrix(text: &[u8], coefficients: &mut [i16]) -> i64
+    ensures { λ r. ⌜ Returned r (now (coefficients .exit)) (readMatrix (now (text .entry)) (now (coefficients .entry))) ⌝ }
+{
+    result(matrix_reader::read_matrix(text, coefficients))
+}
+
+// Writes coefficients as a Matrix Market file into a buffer.
+#[no_mangle]
+pub extern "C" fn ballast_write_matrix(n: usize, coefficients: &[i16], out: &mut [u8]) -> i64
+    ensures { λ r. ⌜ Returned r (now (out .exit)) (writeMatrix n (now (coefficients .entry)) (now (out .entry))) ⌝ }
+{
+    result(matrix_writer::write_matrix(n, coefficients, out))
 }

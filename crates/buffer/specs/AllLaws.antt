@@ -1,6 +1,6 @@
 -- Tests of every element of a list: of its parts, of two lists put together, and at every place. Assumes nothing.
 use Prim.Native.Nat.{ℕ, zero, suc, _<_}
-use lib.ListN.{length, getD, take, drop}
+use lib.ListN.{length, getD, take, drop, replicate}
 use mathlib.Core.Bool.{Bool, true, false, true≢false, false≢true, _&&_, and-assoc}
 use mathlib.Core.List.{List, [], _∷_, _++_}
 use mathlib.Core.Path.{_≡_, refl, sym}
@@ -39,6 +39,11 @@ module _ {X : Type 0} (p : X → Bool) where
   all-drop zero l e = e
   all-drop (suc n) [] e = refl
   all-drop (suc n) (x ∷ l) e = all-drop n l (and-true (p x) (all p l) e .1)
+
+  pub all-replicate : (n : ℕ) (x : X) → p x ≡ true → all p (replicate n x) ≡ true
+  unfolding all
+  all-replicate zero x e = refl
+  all-replicate (suc n) x e = rw e (all-replicate n x e)
 
   -- at every place, past the end too
   pub all-at : (d : X) → p d ≡ true → (l : List X) → all p l ≡ true → (i : ℕ) → p (getD l i d) ≡ true

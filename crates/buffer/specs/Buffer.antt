@@ -1,8 +1,10 @@
 -- Definitions only.
--- A list laid over the front of a buffer, or over it from a place on; what a writer asks and promises; lists one after another; a test of every element.
+-- A list laid over the front of a buffer, or over it from a place on; what a writer asks and promises; lists one after another; a test of every element; what stands at a
+-- list's front.
 use Prim.Native.Nat.{ℕ, zero, suc, _+_, _≤_}
+use lib.Dec.{eqb}
 use lib.ListN.{length, take, drop}
-use mathlib.Core.Bool.{Bool, true, _&&_}
+use mathlib.Core.Bool.{Bool, true, false, _&&_, cond}
 use mathlib.Core.List.{List, [], _∷_, _++_}
 use mathlib.Core.Path.{_≡_}
 
@@ -41,3 +43,14 @@ concat lists = joined (λ l. l) lists
 unfoldable pub all : {X : Type 0} → (X → Bool) → List X → Bool
 all p [] = true
 all p (x ∷ xs) = p x && all p xs
+
+-- how many elements at the front pass a test, up to the first that does not
+unfoldable pub leading : {X : Type 0} → (X → Bool) → List X → ℕ
+leading p [] = 0
+leading p (x ∷ xs) = cond (p x) (suc (leading p xs)) 0
+
+-- whether the list w stands at the front of a list
+unfoldable pub beginsWith : List ℕ → List ℕ → Bool
+beginsWith [] s = true
+beginsWith (c ∷ w) [] = false
+beginsWith (c ∷ w) (d ∷ s) = eqb d c && beginsWith w s

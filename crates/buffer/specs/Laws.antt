@@ -82,7 +82,7 @@ module _ {X : Type 0} where
   abbrev pub put : List X → ℕ → List X → List X
   put xs at ys = putMid at (length xs - at) xs ys
 
-  part-is : (xs : List X) (at : ℕ) → part xs at ≡ drop at xs
+  pub part-is : (xs : List X) (at : ℕ) → part xs at ≡ drop at xs
   part-is xs at = take-all (length xs - at) (drop at xs) (simp length-drop (omega arith))
 
   past : (xs : List X) (at : ℕ) → drop (length xs - at) (drop at xs) ≡ []

@@ -4,3 +4,4 @@ pub mod WroteLaws
 pub mod RunLaws
 pub mod AllLaws
 pub mod FrontLaws
+pub mod LeadingLaws

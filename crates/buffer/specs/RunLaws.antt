@@ -20,6 +20,13 @@ module _ {X : Type 0} (w : ℕ) (piece : ℕ → List X) where
   length-run each zero = sym (mul-zero w)
   length-run each (suc n) = length-append (run n piece) (piece n) ∙ omega (arith, length-run each n, each n, mul-suc w n)
 
+  -- where no piece has more than w
+  pub length-run-le : (n : ℕ) → ((i : ℕ) → i < n → length (piece i) ≤ w) → length (run n piece) ≤ n * w
+  unfolding run
+  length-run-le zero each = omega arith
+  length-run-le (suc n) each =
+      omega (arith, length-append (run n piece) (piece n), length-run-le n (λ i h. each i (omega arith)), each n (omega arith), suc-mul n w)
+
 -- piece i of a run of pieces of w elements stands at w i, with something behind it
 pub record Piece {X : Type 0} (w i : ℕ) (piece : ℕ → List X) (l : List X) : Type 0 where
   pub behind : List X

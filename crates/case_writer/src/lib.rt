@@ -34,13 +34,13 @@ fn check_case(
         return Status::Refused(Refusal::OutsideLimits);
     }
     let tail = casefile::tail_places(rounds, n);
-    let counted = (a.len() == n * n)
+    let counted = casefile::coefficients_counted(n, a)
         & ((t.len() == n * n)
             & ((b.len() == n) & ((f.len() == n) & (y.len() == tail.trial_count))));
     if !counted {
         return Status::Refused(Refusal::WrongLength);
     }
-    let rows = figures::all_i16(a, limits::COEFFICIENT_LIMIT)
+    let rows = casefile::coefficients_fine(a)
         & (figures::all_u16(t, limits::TOLERANCE_LIMIT)
             & (figures::all_i32(b, limits::RIGHT_SIDE_LIMIT)
                 & figures::all_u32(f, limits::RIGHT_TOLERANCE_LIMIT)));

@@ -28,8 +28,12 @@ caseWith n exponent rounds rows Y = record { n = n; exponent = exponent; rounds 
 abbrev pub caseOfLists : ℕ → ℕ → ℕ → List ℤ → List ℕ → List ℤ → List ℕ → List ℤ → Case
 caseOfLists n exponent rounds A E b f Y = caseWith n exponent rounds (block A E b f) Y
 
+-- "n is 1 to 8"
+abbrev pub tanksFine : ℕ → Bool
+tanksFine n = leb 1 n && leb n mostTanks
+
 abbrev pub headFine : ℕ → ℕ → ℕ → Bool
-headFine n exponent rounds = leb 1 n && (leb n mostTanks && (leb exponent mostExponent && leb rounds mostRounds))
+headFine n exponent rounds = tanksFine n && (leb exponent mostExponent && leb rounds mostRounds)
 
 -- its four tests as inequalities
 pub record HeadSmall (n exponent rounds : ℕ) : Type 0 where
@@ -46,19 +50,27 @@ whereTrialGiven (suc k) x y = y
 abbrev pub trialCount : ℕ → ℕ → ℕ
 trialCount k n = whereTrialGiven k n 0
 
+-- a figure for each tank of each row
+abbrev pub squareCount : {X : Type 0} → ℕ → List X → Bool
+squareCount n l = eqb (length l) (n * n)
+
 -- "n × n for the first two, n for the others, none for the trial where K is above 0"
 unfoldable pub counted : Case → Bool
 counted c =
-    eqb (length (c .rows .A)) (c .n * c .n)
-    && (eqb (length (c .rows .E)) (c .n * c .n)
+    squareCount (c .n) (c .rows .A)
+    && (squareCount (c .n) (c .rows .E)
     && (eqb (length (c .rows .b)) (c .n)
     && (eqb (length (c .rows .f)) (c .n)
     && eqb (length (c .Y)) (trialCount (c .rounds) (c .n)))))
 
+-- "coefficient A: −32,767 to 32,767"
+abbrev pub coefficientsFine : List ℤ → Bool
+coefficientsFine A = allWithinLimit coefficientLimit A
+
 -- A, E, b and f within their limits
 unfoldable pub rowsFine : Block → Bool
 rowsFine r =
-    allWithinLimit coefficientLimit (r .A)
+    coefficientsFine (r .A)
     && (allUpToLimit toleranceLimit (r .E)
     && (allWithinLimit rightSideLimit (r .b) && allUpToLimit rightToleranceLimit (r .f)))
 

@@ -1,9 +1,9 @@
-// A case in arrays, as the round trip returns it; whether n, e and K are within their limits; and the tags, lengths and places of a case's fields in
+// A case in arrays, as the round trip returns it; whether n, e and K, a list of coefficients and its count are within their limits; and the tags, lengths and places of a case's fields in
 // bytes, with how many figures the trial has.
 ghost use Prim.Native.Nat.{_≤_};
 ghost use mathlib.Core.Path.{_≡_};
 ghost use Rattle.limits.specs.Limits.{mostTanks};
-ghost use Rattle.casefile.specs.Case.{headFine};
+ghost use Rattle.casefile.specs.Case.{tanksFine, headFine, squareCount, coefficientsFine};
 ghost use Rattle.casefile.specs.Layout.{RowPlaced, TailPlaced};
 use bigendian::SIZE_16;
 use bigendian::SIZE_32;
@@ -68,13 +68,33 @@ pub struct TailPlaces {
     pub end: usize,
 }
 
+// Whether n is within its limits.
+pub fn tanks_fine(n: usize) -> bool
+    ensures { λ r. ⌜ r ≡ tanksFine n ⌝ }
+{
+    (1 <= n) & (n <= MOST_TANKS)
+}
+
 // Whether n, the exponent and the rounds are within their limits.
 pub fn head_fine(n: usize, exponent: usize, rounds: usize) -> bool
     ensures { λ r. ⌜ r ≡ headFine n exponent rounds ⌝ }
 {
-    (1 <= n)
-        & ((n <= MOST_TANKS)
-            & ((exponent <= limits::MOST_EXPONENT) & (rounds <= limits::MOST_ROUNDS)))
+    tanks_fine(n) & ((exponent <= limits::MOST_EXPONENT) & (rounds <= limits::MOST_ROUNDS))
+}
+
+// Whether a list has a coefficient for each of n tanks in each of n rows.
+pub fn coefficients_counted(n: usize, coefficients: &[i16]) -> bool
+    requires { ⌜ n ≤ mostTanks ⌝ }
+    ensures { λ r. ⌜ r ≡ squareCount n (now (coefficients .entry)) ⌝ }
+{
+    coefficients.len() == n * n
+}
+
+// Whether every coefficient is within its limits.
+pub fn coefficients_fine(coefficients: &[i16]) -> bool
+    ensures { λ r. ⌜ r ≡ coefficientsFine (now (coefficients .entry)) ⌝ }
+{
+    figures::all_i16(coefficients, limits::COEFFICIENT_LIMIT)
 }
 
 // Where a row's tolerances, right side and its tolerance stand in the row's value, each behind the figures before it; how long the value is; and the

@@ -13,6 +13,10 @@ abbrev pub ascii : string.String → List ℕ
 ascii string.[] = []
 ascii (string._∷_ c s) = code c ∷ ascii s
 
+-- "A line feed ends every line."
+abbrev pub lineFeed : List ℕ
+lineFeed = 10 ∷ []
+
 -- the byte of a digit
 abbrev pub digit : ℕ → ℕ
 digit d = 48 + d

@@ -19,7 +19,7 @@ use Rattle.decimal.specs.Reading.{valueFrom, value, scaledValue, negativ
 
 -- ---- digits
 
-value-snoc : (a : ℕ) (s : List ℕ) (c : ℕ) → valueFrom a (s ++ (c ∷ [])) ≡ valueFrom a s * 10 + (c - 48)
+pub value-snoc : (a : ℕ) (s : List ℕ) (c : ℕ) → valueFrom a (s ++ (c ∷ [])) ≡ valueFrom a s * 10 + (c - 48)
 value-snoc a [] c = refl
 value-snoc a (x ∷ s) c = value-snoc (a * 10 + (x - 48)) s c
 

@@ -1,11 +1,12 @@
 // Words and decimal numbers as bytes in a buffer. Each writer writes from the place `at` on, changes nothing else, and returns the place
-// after what it wrote.
+// after what it wrote. And digits read back.
 ghost use Prim.Native.Nat.{_≤_};
 ghost use lib.ListN.{length};
 ghost use mathlib.Core.Path.{_≡_};
 ghost use Rattle.limits.specs.Limits.{mostExponent};
 ghost use Rattle.buffer.specs.Buffer.{Room, Wrote};
 ghost use Rattle.decimal.specs.Decimal.{decimalDigits, lastDigits, minusSign, signedDecimal, fraction, fixedPoint};
+ghost use Rattle.decimal.specs.Reading.{mostDigits, isDigit, DigitsRead};
 use integers::magnitude;
 use integers::power_of_ten;
 
@@ -103,4 +104,30 @@ pub fn write_fixed_point(x: i64, e: usize, at: usize, out: &mut [u8]) -> usize
     let after_sign = write_minus(x, at, out);
     let after_whole = write_unsigned(size / unit, after_sign, out);
     write_fraction(size % unit, e, after_whole, out)
+}
+
+// How many digits were read, and their number.
+pub struct Digits {
+    pub count: usize,
+    pub value: u64,
+}
+
+fn is_digit(byte: u8) -> bool
+    ensures { λ r. ⌜ r ≡ isDigit byte ⌝ }
+{
+    (b'0' <= byte) & (byte <= b'9')
+}
+
+// The digits at the front of the text, at most so many of them, which 64 bits hold.
+pub fn read_digits(text: &[u8], most: usize) -> Digits
+    requires { ⌜ most ≤ mostDigits ⌝ }
+    ensures { λ r. ⌜ DigitsRead most (now (text .entry)) r ⌝ }
+{
+    let mut count = 0;
+    let mut value: u64 = 0;
+    while count < most && count < text.len() && is_digit(text[count]) {
+        value = value * 10 + (text[count] - b'0') as u64;
+        count += 1;
+    }
+    Digits { count, value }
 }

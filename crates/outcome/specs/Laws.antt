@@ -6,7 +6,7 @@ use native.Mathlib.Omega.{arith}
 use Rattle.outcome.specs.Outcome.{numberOf, refusalOf, statusNumber, reportedOutcome, check, first}
 use Rattle.outcome.specs.declared.Outcome.the-variants.{Count, Refused as RefusedBy}
 use Rattle.outcome.specs.declared.Refusal.{Refusal}
-use Rattle.outcome.specs.declared.Refusal.the-variants.{BufferTooShort, FieldMissing, WrongTag, WrongLength, ValueCutShort, OutsideLimits, TrailingBytes, ZeroPivot, OutsideRange, OutsideTable}
+use Rattle.outcome.specs.declared.Refusal.the-variants.{BufferTooShort, FieldMissing, WrongTag, WrongLength, ValueCutShort, OutsideLimits, TrailingBytes, ZeroPivot, OutsideRange, OutsideTable, WrongMatrixHeader, WrongMatrixEntry}
 use Rattle.outcome.specs.declared.Status.{Status}
 use Rattle.outcome.specs.declared.Status.the-variants.{Accepted, Refused}
 
@@ -22,6 +22,8 @@ refusal-of-number TrailingBytes = refl
 refusal-of-number ZeroPivot = refl
 refusal-of-number OutsideRange = refl
 refusal-of-number OutsideTable = refl
+refusal-of-number WrongMatrixHeader = refl
+refusal-of-number WrongMatrixEntry = refl
 
 same-number : (q r : Refusal) → numberOf q ≡ numberOf r → q ≡ r
 same-number q r e = sym (refusal-of-number q) ∙ ap refusalOf e ∙ refusal-of-number r

@@ -7,7 +7,7 @@ use mathlib.Core.List.{List, [], _∷_}
 use Rattle.outcome.specs.declared.Outcome.{Outcome}
 use Rattle.outcome.specs.declared.Outcome.the-variants.{Count, Refused as RefusedBy}
 use Rattle.outcome.specs.declared.Refusal.{Refusal}
-use Rattle.outcome.specs.declared.Refusal.the-variants.{BufferTooShort, FieldMissing, WrongTag, WrongLength, ValueCutShort, OutsideLimits, TrailingBytes, ZeroPivot, OutsideRange, OutsideTable}
+use Rattle.outcome.specs.declared.Refusal.the-variants.{BufferTooShort, FieldMissing, WrongTag, WrongLength, ValueCutShort, OutsideLimits, TrailingBytes, ZeroPivot, OutsideRange, OutsideTable, WrongMatrixHeader, WrongMatrixEntry}
 use Rattle.outcome.specs.declared.Status.{Status}
 use Rattle.outcome.specs.declared.Status.the-variants.{Accepted, Refused}
 
@@ -24,6 +24,9 @@ numberOf ZeroPivot = 8
 numberOf OutsideRange = 9
 -- document 02, "Soundings for the mate": "It refuses, with 10 and after 1 to 9"
 numberOf OutsideTable = 10
+-- document 02, "Matrix Market files": "Reading refuses with 11 .. and then with 12 .."
+numberOf WrongMatrixHeader = 11
+numberOf WrongMatrixEntry = 12
 
 -- the refusals in the order of their numbers
 abbrev pub refusals : List Refusal
@@ -38,11 +41,13 @@ refusals =
     ∷ ZeroPivot
     ∷ OutsideRange
     ∷ OutsideTable
+    ∷ WrongMatrixHeader
+    ∷ WrongMatrixEntry
     ∷ []
 
 -- the refusal that has a number; of those that none has, 0 goes to the first and the others to the last
 abbrev pub refusalOf : ℕ → Refusal
-refusalOf k = getD refusals (k - 1) OutsideTable
+refusalOf k = getD refusals (k - 1) WrongMatrixEntry
 
 -- "Every outcome says whether its number is a count or a refusal": whether it refuses, and its number
 abbrev pub refuses : Outcome → Bool

@@ -2,7 +2,7 @@
 ghost use mathlib.Core.Path.{_≡_};
 ghost use Rattle.outcome.specs.Outcome.{numberOf, statusNumber, check as checked};
 
-// Document 01, "Refused, in this order", and document 02's refusal of soundings behind them.
+// Document 01, "Refused, in this order", and behind them document 02's refusals: of soundings, and of Matrix Market files.
 pub enum Refusal {
     BufferTooShort,
     FieldMissing,
@@ -14,6 +14,8 @@ pub enum Refusal {
     ZeroPivot,
     OutsideRange,
     OutsideTable,
+    WrongMatrixHeader,
+    WrongMatrixEntry,
 }
 
 // The answer of a call that writes: how many bytes, or why none.
@@ -43,6 +45,8 @@ pub fn number(refusal: Refusal) -> u8
         Refusal::ZeroPivot => 8,
         Refusal::OutsideRange => 9,
         Refusal::OutsideTable => 10,
+        Refusal::WrongMatrixHeader => 11,
+        Refusal::WrongMatrixEntry => 12,
     }
 }
 

@@ -9,7 +9,7 @@ use Rattle.limits.specs.Limits.{mostTanks, mostExponent}
 use Rattle.buffer.specs.Buffer.{run, concat, Wrote}
 use Rattle.judge.specs.Finding.{Finding, finding}
 use Rattle.judge.specs.Judgement.{Judgement}
-use Rattle.decimal.specs.Decimal.{decimalDigits, signedDecimal, fixedPoint, ascii}
+use Rattle.decimal.specs.Decimal.{lineFeed, decimalDigits, signedDecimal, fixedPoint, ascii}
 
 -- what is printed of a condition: the answer's figures Y by tank, from 0, and what was found of it
 pub record Report : Type 0 where
@@ -22,10 +22,6 @@ pub record Report : Type 0 where
 abbrev pub report : ℕ → ℕ → ℕ → List ℤ → Judgement → Report
 report n e rounds answer judgement =
     record { n = n; exponent = e; rounds = rounds; answer = λ j. getD answer j (pos 0); found = finding judgement }
-
--- "A line feed ends every line."
-abbrev pub lineFeed : List ℕ
-lineFeed = 10 ∷ []
 
 -- a word and a whole number behind it
 abbrev pub labelled : List ℕ → ℕ → List ℕ

@@ -1,17 +1,17 @@
 -- How long the lines, the whole text and a refusal are at most, and that neither is ever empty. Assumes nothing.
-use Prim.Native.Nat.{ℕ, zero, suc, _+_, _*_, _^_, _≤_, _<_}
+use Prim.Native.Nat.{ℕ, suc, _+_, _*_, _^_, _≤_, _<_}
 use lib.IntN.{ℤ, natAbs}
 use lib.ListN.{length, length-append}
 use mathlib.Core.Bool.{Bool, true, false}
 use mathlib.Core.List.{List, [], _∷_, _++_}
-use native.Mathlib.Nat.{suc-mul}
 use native.Mathlib.Omega.{arith}
 use Rattle.limits.specs.Limits.{mostTanks, mostExponent}
-use Rattle.buffer.specs.Buffer.{run, concat}
-use Rattle.decimal.specs.Decimal.{decimalDigits, signedDecimal, fixedPoint, ascii}
+use Rattle.buffer.specs.Buffer.{concat}
+use Rattle.buffer.specs.RunLaws.{length-run-le}
+use Rattle.decimal.specs.Decimal.{lineFeed, decimalDigits, signedDecimal, fixedPoint, ascii}
 use Rattle.decimal.specs.DigitLaws.{length-digits}
 use Rattle.decimal.specs.ReadingLaws.{length-signed, length-fixed-point}
-use Rattle.report.specs.Text.{Report, labelled, lineFeed, verdictWord, verdictLine, answerLine, rowLine, factorWord, factorLine, answerLines, rowLines, text, refusalText, verdictRoom, answerRoom, rowRoom, factorRoom, textRoom}
+use Rattle.report.specs.Text.{Report, labelled, verdictWord, verdictLine, answerLine, rowLine, factorWord, factorLine, answerLines, rowLines, text, refusalText, verdictRoom, answerRoom, rowRoom, factorRoom, textRoom}
 
 -- ---- a text from the bounds of its parts
 
@@ -77,12 +77,6 @@ length-factor-line lacks row h =
     (some (omega arith) none))
 
 -- ---- the whole text
-
-length-run-le : (w : ℕ) (piece : ℕ → List ℕ) (n : ℕ) → ((i : ℕ) → i < n → length (piece i) ≤ w) → length (run n piece) ≤ n * w
-unfolding run
-length-run-le w piece zero each = omega arith
-length-run-le w piece (suc n) each =
-    omega (arith, length-append (run n piece) (piece n), length-run-le w piece n (λ i h. each i (omega arith)), each n (omega arith), suc-mul n w)
 
 -- figures that are no wider than the longest line of their kind admits
 pub record ReportFits (r : Report) : Type 0 where

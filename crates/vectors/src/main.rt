@@ -1,27 +1,32 @@
-// Runs the call on the inputs of vectors.bin, soundings on those of soundings.bin, the printed verdict on those of texts.bin and the case writer on the
-// figures of writes.bin, and compares what they do with the results of a second implementation that stand there.
+// Runs the call on the inputs of vectors.bin, soundings on those of soundings.bin, the printed verdict on those of texts.bin, the case writer on the
+// figures of writes.bin, and the reader and writer of Matrix Market files on the texts of matrix_reads.bin and the figures of matrix_writes.bin, and
+// compares what they do with the results of a second implementation that stand there.
 //
-// All numbers are big-endian. A file is a stream of results. In vectors.bin, soundings.bin and texts.bin each begins with
-//     2 bytes  the length of the input, at most 400, or FFFF at the end of the stream
+// All numbers are big-endian. A file is a stream of results. In vectors.bin, soundings.bin, texts.bin and matrix_reads.bin each begins with
+//     2 bytes  the length of the input, at most 600, or FFFF at the end of the stream
 //     then     the input
-// and in writes.bin with
+// in writes.bin with
 //     3 bytes  n, e and K, or FFFFFF at the end of the stream; no call begins FFFF
 //     then     five lists, each with one byte for its count, at most 80, and its figures: coefficients and their tolerances of 2 bytes, right sides,
 //              their tolerances and the trial of 4 bytes
-// In vectors.bin, soundings.bin and writes.bin there follows
-//     2 bytes  the length of the result buffer, at most 512
+// and in matrix_writes.bin with
+//     2 bytes  n, or FFFF at the end of the stream
+//     then     a list of coefficients, as in writes.bin
+// In all but texts.bin there follows
+//     2 bytes  the length of the result buffer, at most 512, or in matrix_reads.bin how many places the list has, at most 80
 //     1 byte   0 for a count, 1 for a refusal
 //     2 bytes  the count, or the refusal's number
-//     then     for a count, the record, the depths or the case
+//     then     for a count, the record, the depths, the case or the text, or in matrix_reads.bin n times n coefficients of 2 bytes
 // and in texts.bin
 //     2 bytes  the length of the printed text, at most 800
 //     then     the text
 // Every byte of the result buffer is A5 before the call, and so is every byte beyond the record, depths, case or text after it, or every byte after a refusal.
+// Every place of the list is A5A5 before the call, and so is every place past the n times n coefficients after it, or every place after a refusal.
 ghost use Prim.Native.Nat.{_≤_};
 use libc::STDOUT_FILENO;
 use outcome::Outcome;
 
-const LONGEST_INPUT: usize = 400;
+const LONGEST_INPUT: usize = 600;
 
 const LONGEST_BUFFER: usize = 512;
 
@@ -41,6 +46,9 @@ const NO_LIMIT: u64 = 0xFFFFFFFF;
 
 const UNTOUCHED: u8 = 0xA5;
 
+// Both of its bytes are untouched.
+const UNTOUCHED_PLACE: i16 = -0x5A5B;
+
 const END_MARK: usize = 0xFFFF;
 
 const END_BYTE: u8 = 0xFF;
@@ -52,12 +60,14 @@ const REFUSAL: u8 = 1;
 // More results than any file has, so that the run ends on every file.
 const MOST_RESULTS: u64 = 1000000;
 
-// The four files.
+// The six files.
 enum Stream {
     Records,
     Soundings,
     Texts,
     Writes,
+    MatrixReads,
+    MatrixWrites,
 }
 
 // What the next place of the stream holds.
@@ -68,7 +78,7 @@ enum Item {
     Malformed,
 }
 
-// What a call comes to, where the stream is well formed: the length of its buffer, its outcome's kind and number, and the buffer after it.
+// What a call comes to, where the stream is well formed: the length of its buffer or list, its outcome's kind and number, and the buffer after it.
 struct Expected {
     complete: bool,
     length: usize,
@@ -119,23 +129,32 @@ fn agreement(same: bool) -> Item {
     if same { Item::Agrees } else { Item::Differs }
 }
 
+// How many bytes a call leaves that has this count: so many, or two for each coefficient of a matrix that was read.
+fn bytes_left(stream: Stream, count: u16) -> usize {
+    let count = count as usize;
+    match stream {
+        Stream::MatrixReads => 2 * count * count,
+        _ => count,
+    }
+}
+
 // Reads what a call comes to.
-fn read_expected(fd: i32) -> Expected {
+fn read_expected(fd: i32, stream: Stream) -> Expected {
     let mut head = [0u8; 5];
     let begun = read_exactly(fd, &mut head);
     let length = bigendian::read_u16(&head, 0) as usize;
     let kind = head[2];
-    let number = bigendian::read_u16(&head, 3) as usize;
+    let number = bigendian::read_u16(&head, 3);
     let mut buffer = [UNTOUCHED; LONGEST_BUFFER];
     let mut complete = begun && kind <= REFUSAL;
     if complete && kind == COUNT {
-        complete = read_front(fd, number, &mut buffer);
+        complete = read_front(fd, bytes_left(stream, number), &mut buffer);
     }
     Expected {
         complete,
         length,
         kind,
-        number,
+        number: number as usize,
         buffer,
     }
 }
@@ -150,17 +169,16 @@ fn compare(outcome: Outcome, buffer: &[u8; LONGEST_BUFFER], expected: Expected) 
 }
 
 // The soundings of an input, or its record.
-fn call(sounded: bool, input: &[u8], out: &mut [u8]) -> Outcome {
-    if sounded {
-        soundings::soundings(input, out)
-    } else {
-        ballast::judge_case(input, out)
+fn call(stream: Stream, input: &[u8], out: &mut [u8]) -> Outcome {
+    match stream {
+        Stream::Soundings => soundings::soundings(input, out),
+        _ => ballast::judge_case(input, out),
     }
 }
 
 // Calls on the first size bytes of inputs, and compares.
-fn compare_call(fd: i32, sounded: bool, inputs: &[u8], size: usize) -> Item {
-    let expected = read_expected(fd);
+fn compare_call(fd: i32, stream: Stream, inputs: &[u8], size: usize) -> Item {
+    let expected = read_expected(fd, stream);
     let length = expected.length;
     if !expected.complete {
         return Item::Malformed;
@@ -172,7 +190,33 @@ fn compare_call(fd: i32, sounded: bool, inputs: &[u8], size: usize) -> Item {
         return Item::Malformed;
     }
     let mut buffer = [UNTOUCHED; LONGEST_BUFFER];
-    let outcome = call(sounded, &inputs[..size], &mut buffer[..length]);
+    let outcome = call(stream, &inputs[..size], &mut buffer[..length]);
+    compare(outcome, &buffer, expected)
+}
+
+// The bytes of a list, at the front of a buffer.
+fn list_bytes(list: &[i16; MOST_FIGURES]) -> [u8; LONGEST_BUFFER] {
+    let mut buffer = [UNTOUCHED; LONGEST_BUFFER];
+    figures::write_i16s(list, &mut buffer);
+    buffer
+}
+
+// Reads the matrix in the first size bytes of inputs, and compares the bytes of the list, with its places that were not lent.
+fn compare_matrix_read(fd: i32, inputs: &[u8], size: usize) -> Item {
+    let expected = read_expected(fd, Stream::MatrixReads);
+    let places = expected.length;
+    if !expected.complete {
+        return Item::Malformed;
+    }
+    if inputs.len() < size {
+        return Item::Malformed;
+    }
+    if MOST_FIGURES < places {
+        return Item::Malformed;
+    }
+    let mut coefficients = [UNTOUCHED_PLACE; MOST_FIGURES];
+    let outcome = matrix_reader::read_matrix(&inputs[..size], &mut coefficients[..places]);
+    let buffer = list_bytes(&coefficients);
     compare(outcome, &buffer, expected)
 }
 
@@ -287,7 +331,7 @@ fn compare_write(fd: i32, n: u8, exponent: u8, rounds: u8) -> Item {
     let b = read_i32s(fd, &mut right_sides);
     let f = read_u32s(fd, &mut right_tolerances);
     let y = read_i32s(fd, &mut trial);
-    let expected = read_expected(fd);
+    let expected = read_expected(fd, Stream::Writes);
     let length = expected.length;
     if !expected.complete {
         return Item::Malformed;
@@ -310,6 +354,23 @@ fn compare_write(fd: i32, n: u8, exponent: u8, rounds: u8) -> Item {
     compare(outcome, &buffer, expected)
 }
 
+// Writes the matrix with this n and the coefficients that follow, and compares.
+fn compare_matrix_write(fd: i32, n: usize) -> Item {
+    let mut coefficients = [0i16; MOST_FIGURES];
+    let count = read_i16s(fd, &mut coefficients);
+    let expected = read_expected(fd, Stream::MatrixWrites);
+    let length = expected.length;
+    if !expected.complete {
+        return Item::Malformed;
+    }
+    if LONGEST_BUFFER < length {
+        return Item::Malformed;
+    }
+    let mut buffer = [UNTOUCHED; LONGEST_BUFFER];
+    let outcome = matrix_writer::write_matrix(n, &coefficients[..count], &mut buffer[..length]);
+    compare(outcome, &buffer, expected)
+}
+
 // The end of the stream, if nothing is left of the file.
 fn ended(fd: i32) -> Item {
     let mut byte = [0u8; 1];
@@ -320,28 +381,36 @@ fn ended(fd: i32) -> Item {
     }
 }
 
-// Reads the next input or the end of the stream.
-fn next_input(fd: i32, stream: Stream) -> Item {
-    let mut head = [0u8; 2];
-    if !read_exactly(fd, &mut head) {
-        return Item::Malformed;
-    }
-    let size = bigendian::read_u16(&head, 0) as usize;
-    if size == END_MARK {
-        return ended(fd);
-    }
+// Reads an input of this size, and compares.
+fn compare_input(fd: i32, stream: Stream, size: usize) -> Item {
     let mut inputs = [0u8; LONGEST_INPUT];
     if !read_front(fd, size, &mut inputs) {
         return Item::Malformed;
     }
     match stream {
         Stream::Texts => compare_text(fd, &inputs, size),
-        Stream::Soundings => compare_call(fd, true, &inputs, size),
-        _ => compare_call(fd, false, &inputs, size),
+        Stream::MatrixReads => compare_matrix_read(fd, &inputs, size),
+        _ => compare_call(fd, stream, &inputs, size),
     }
 }
 
-// Reads the next call of the writer or the end of the stream.
+// Reads the next input, or the next matrix to be written, or the end of the stream.
+fn next_input(fd: i32, stream: Stream) -> Item {
+    let mut head = [0u8; 2];
+    if !read_exactly(fd, &mut head) {
+        return Item::Malformed;
+    }
+    let number = bigendian::read_u16(&head, 0) as usize;
+    if number == END_MARK {
+        return ended(fd);
+    }
+    match stream {
+        Stream::MatrixWrites => compare_matrix_write(fd, number),
+        _ => compare_input(fd, stream, number),
+    }
+}
+
+// Reads the next call of the case writer or the end of the stream.
 fn next_write(fd: i32) -> Item {
     let mut head = [0u8; 3];
     if !read_exactly(fd, &mut head) {
@@ -418,11 +487,17 @@ fn print_kind(stream: Stream) {
         Stream::Writes => {
             io::write_all(STDOUT_FILENO, b" written cases agree");
         }
+        Stream::MatrixReads => {
+            io::write_all(STDOUT_FILENO, b" matrix readings agree");
+        }
+        Stream::MatrixWrites => {
+            io::write_all(STDOUT_FILENO, b" written matrices agree");
+        }
     }
 }
 
-// Prints `A of N results agree`, or the same of soundings, printed verdicts or written cases, then the number of the first that does not, and the place where a
-// malformed stream was left.
+// Prints `A of N results agree`, or the same of what the other streams hold, then the number of the first that does not, and the place where a malformed
+// stream was left.
 fn print(t: Tally, stream: Stream) {
     io::print_decimal(STDOUT_FILENO, t.agree);
     io::write_all(STDOUT_FILENO, b" of ");
@@ -456,5 +531,9 @@ fn main() {
     run(b"texts.bin", Stream::Texts);
     io::write_all(STDOUT_FILENO, b", ");
     run(b"writes.bin", Stream::Writes);
+    io::write_all(STDOUT_FILENO, b", ");
+    run(b"matrix_reads.bin", Stream::MatrixReads);
+    io::write_all(STDOUT_FILENO, b", ");
+    run(b"matrix_writes.bin", Stream::MatrixWrites);
     io::write_all(STDOUT_FILENO, b"\n");
 }

@@ -15,7 +15,7 @@ use Rattle.outcome.specs.Outcome.{numberOf, reportedOutcome}
 use Rattle.outcome.specs.declared.Outcome.{Outcome}
 use Rattle.outcome.specs.declared.Outcome.the-variants.{Count, Refused as RefusedBy}
 use Rattle.outcome.specs.declared.Refusal.{Refusal}
-use Rattle.outcome.specs.declared.Refusal.the-variants.{BufferTooShort, FieldMissing, WrongTag, WrongLength, ValueCutShort, OutsideLimits, TrailingBytes, ZeroPivot, OutsideRange, OutsideTable}
+use Rattle.outcome.specs.declared.Refusal.the-variants.{BufferTooShort, FieldMissing, WrongTag, WrongLength, ValueCutShort, OutsideLimits, TrailingBytes, ZeroPivot, OutsideRange, OutsideTable, WrongMatrixHeader, WrongMatrixEntry}
 use Rattle.outcome.specs.declared.Status.{Status}
 use Rattle.outcome.specs.declared.Status.the-variants.{Accepted, Refused}
 use Rattle.casefile.specs.Decode.{decode}
@@ -38,6 +38,8 @@ number-small TrailingBytes = lit< tt
 number-small ZeroPivot = lit< tt
 number-small OutsideRange = lit< tt
 number-small OutsideTable = lit< tt
+number-small WrongMatrixHeader = lit< tt
+number-small WrongMatrixEntry = lit< tt
 
 refusal-short : (r : Refusal) → length (refusalText (numberOf r)) ≤ textRoom
 refusal-short r = length-refusal (numberOf r) (number-small r)

@@ -1,12 +1,14 @@
 //! Safe calls of the proved library. What each promises stands in `include/ballast.h`.
 
-/// The shortest buffers that are not refused with 1; nothing written is longer.
+/// The shortest buffers, and the shortest list of coefficients, that are not refused with 1; nothing written is longer.
 pub const RECORD_ROOM: usize = 180;
 pub const CASE_ROOM: usize = 388;
 pub const TEXT_ROOM: usize = 800;
 pub const SOUNDINGS_ROOM: usize = 16;
+pub const MATRIX_ROOM: usize = 496;
+pub const MATRIX_PLACES: usize = 64;
 
-/// In the order in which a case is looked through; what each means stands in the header.
+/// In the order in which a case or a matrix text is looked through; what each means stands in the header.
 #[derive(Clone, Copy, Debug, PartialEq, Eq)]
 #[repr(u8)]
 pub enum Refusal {
@@ -20,10 +22,12 @@ pub enum Refusal {
     ZeroPivot = 8,
     OutsideRange = 9,
     OutsideTable = 10,
+    WrongMatrixHeader = 11,
+    WrongMatrixEntry = 12,
 }
 
 impl Refusal {
-    pub const ALL: [Refusal; 10] = [
+    pub const ALL: [Refusal; 12] = [
         Refusal::BufferTooShort,
         Refusal::FieldMissing,
         Refusal::WrongTag,
@@ -34,6 +38,8 @@ impl Refusal {
         Refusal::ZeroPivot,
         Refusal::OutsideRange,
         Refusal::OutsideTable,
+        Refusal::WrongMatrixHeader,
+        Refusal::WrongMatrixEntry,
     ];
 
     pub fn number(self) -> u8 {
@@ -77,6 +83,8 @@ mod library {
             out: *mut u8,
             room: usize,
         ) -> i64;
+        pub fn ballast_read_matrix(text: *const u8, length: usize, coefficients: *mut i16, places: usize) -> i64;
+        pub fn ballast_write_matrix(n: usize, coefficients: *const i16, count: usize, out: *mut u8, room: usize) -> i64;
     }
 }
 
@@ -139,4 +147,16 @@ pub fn write_case(case: &Case<'_>, out: &mut [u8]) -> Result<usize, Refusal> {
             out.len(),
         )
     })
+}
+
+/// The n of a matrix text, with its n × n coefficients, row after row, at the front of `coefficients`.
+pub fn read_matrix(text: &[u8], coefficients: &mut [i16]) -> Result<usize, Refusal> {
+    // SAFETY: as above.
+    outcome(unsafe { library::ballast_read_matrix(text.as_ptr(), text.len(), coefficients.as_mut_ptr(), coefficients.len()) })
+}
+
+/// The length of the matrix text of these coefficients, which stand row after row, with the text at the front of `out`.
+pub fn write_matrix(n: usize, coefficients: &[i16], out: &mut [u8]) -> Result<usize, Refusal> {
+    // SAFETY: as above.
+    outcome(unsafe { library::ballast_write_matrix(n, coefficients.as_ptr(), coefficients.len(), out.as_mut_ptr(), out.len()) })
 }

@@ -1,6 +1,6 @@
 //! The wrapper and the header say the same: sizes and refusals.
-use ballast::{check_case, depths, judge_case, soundings, verdict_text, write_case};
-use ballast::{Case, Refusal, CASE_ROOM, RECORD_ROOM, SOUNDINGS_ROOM, TEXT_ROOM};
+use ballast::{check_case, depths, judge_case, read_matrix, soundings, verdict_text, write_case, write_matrix};
+use ballast::{Case, Refusal, CASE_ROOM, MATRIX_PLACES, MATRIX_ROOM, RECORD_ROOM, SOUNDINGS_ROOM, TEXT_ROOM};
 
 const HEADER: &str = include_str!("../../../include/ballast.h");
 
@@ -18,6 +18,8 @@ fn sizes() {
     assert_eq!(header_number("BALLAST_CASE_ROOM"), CASE_ROOM as i64);
     assert_eq!(header_number("BALLAST_TEXT_ROOM"), TEXT_ROOM as i64);
     assert_eq!(header_number("BALLAST_SOUNDINGS_ROOM"), SOUNDINGS_ROOM as i64);
+    assert_eq!(header_number("BALLAST_MATRIX_ROOM"), MATRIX_ROOM as i64);
+    assert_eq!(header_number("BALLAST_MATRIX_PLACES"), MATRIX_PLACES as i64);
 }
 
 #[test]
@@ -33,6 +35,8 @@ fn refusals() {
         "ZERO_PIVOT",
         "OUTSIDE_RANGE",
         "OUTSIDE_TABLE",
+        "WRONG_MATRIX_HEADER",
+        "WRONG_MATRIX_ENTRY",
     ];
     for (name, refusal) in names.iter().zip(Refusal::ALL) {
         assert_eq!(header_number(&format!("BALLAST_{name}")), -i64::from(refusal.number()));
@@ -89,4 +93,33 @@ fn depths_by_tanks() {
     assert_eq!(soundings(&case[..length], &mut room), Ok(6));
     assert!(depths(&room[..6]).eq([0, 400, 1]));
     assert_eq!(room[6..], [0xA5; SOUNDINGS_ROOM - 6]);
+}
+
+#[test]
+fn written_matrices() {
+    let mut room = [0xA5; MATRIX_ROOM + 1];
+    assert_eq!(write_matrix(0, &[], &mut room[..MATRIX_ROOM - 1]), Err(Refusal::BufferTooShort));
+    assert_eq!(write_matrix(0, &[], &mut room), Err(Refusal::OutsideLimits));
+    assert_eq!(write_matrix(2, &[-32_768; 3], &mut room), Err(Refusal::WrongLength));
+    assert_eq!(write_matrix(2, &[1, 2, 3, -32_768], &mut room), Err(Refusal::OutsideLimits));
+    assert_eq!(room, [0xA5; MATRIX_ROOM + 1]);
+    let text = b"%%MatrixMarket matrix array integer general\n2 2\n1\n-3\n20\n0\n";
+    assert_eq!(write_matrix(2, &[1, 20, -3, 0], &mut room), Ok(text.len()));
+    assert_eq!(room[..text.len()], text[..]);
+    assert!(room[text.len()..].iter().all(|&byte| byte == 0xA5));
+    assert_eq!(write_matrix(8, &[-32_767; MATRIX_PLACES], &mut room[..MATRIX_ROOM]), Ok(MATRIX_ROOM));
+}
+
+#[test]
+fn read_matrices() {
+    let text = b"%%MatrixMarket matrix array integer general\n%\n2  2\n1\n-03\n20\n-0\n";
+    let mut places = [77; MATRIX_PLACES + 1];
+    assert_eq!(read_matrix(b"", &mut places[..MATRIX_PLACES - 1]), Err(Refusal::BufferTooShort));
+    assert_eq!(read_matrix(b"", &mut places), Err(Refusal::WrongMatrixHeader));
+    assert_eq!(read_matrix(&text[1..], &mut places), Err(Refusal::WrongMatrixHeader));
+    assert_eq!(read_matrix(&text[..text.len() - 1], &mut places), Err(Refusal::WrongMatrixEntry));
+    assert_eq!(places, [77; MATRIX_PLACES + 1]);
+    assert_eq!(read_matrix(text, &mut places[..MATRIX_PLACES]), Ok(2));
+    assert_eq!(places[..4], [1, 20, -3, 0]);
+    assert_eq!(places[4..], [77; MATRIX_PLACES - 3]);
 }

@@ -6,9 +6,9 @@ use denote.Ref.{now}
 use mathlib.Core.Bool.{true, false}
 use mathlib.Core.Path.{_≡_, sym, _∙_}
 use native.Mathlib.Omega.{arith}
-use Rattle.limits.specs.Limits.{coefficientLimit, toleranceLimit, rightSideLimit, rightToleranceLimit, trialLimit}
+use Rattle.limits.specs.Limits.{toleranceLimit, rightSideLimit, rightToleranceLimit, trialLimit}
 use Rattle.figures.specs.Figures.{allUpToLimit, allWithinLimit}
-use Rattle.casefile.specs.Case.{Case, caseOfLists, HeadSmall, headFine, counted, rowsFine, figuresFine, caseStatus}
+use Rattle.casefile.specs.Case.{Case, caseOfLists, HeadSmall, headFine, counted, coefficientsFine, rowsFine, figuresFine, caseStatus}
 use Rattle.casefile.specs.CaseLaws.{head-small}
 use Rattle.casefile.specs.RowsLaws.{square-fits}
 use Rattle.case_writer.proofs.check_case.Statement.{statement}
@@ -38,8 +38,9 @@ returns c = rw (sym (c .before .head-fine .ensures) ∙ not-true _ (c .if1 .take
 returns-2 : tie.Need-returns-2
 unfolding caseStatus counted
 returns-2 c =
-    let p = c .before .before in
-    let e : counted (givenCase (start (p .before))) ≡ false = rw (← (p .tail-places .ensures .trial-count)) (not-true _ (c .if2 .taken)) in
+    let k = c .before .before in
+    let p = k .before in
+    let e : counted (givenCase (start (p .before))) ≡ false = rw (← (p .tail-places .ensures .trial-count), ← (k .coefficients-counted .ensures)) (not-true _ (c .if2 .taken)) in
     rw (head-passed (p .before), e)
 
 returns-3 : tie.Need-returns-3
@@ -50,10 +51,11 @@ returns-3 c =
     let b = f .before in
     let t = b .before in
     let a = t .before in
-    let p = a .before .before .before in
-    let e : counted (givenCase (start (p .before))) ≡ true = rw (← (p .tail-places .ensures .trial-count)) (not-false _ (a .before .if2 .left)) in
+    let k = a .before .before .before in
+    let p = k .before in
+    let e : counted (givenCase (start (p .before))) ≡ true = rw (← (p .tail-places .ensures .trial-count), ← (k .coefficients-counted .ensures)) (not-false _ (a .before .if2 .left)) in
     let g = start (p .before) .args in
-    let a-is : a .all-i16 .result ≡ allWithinLimit coefficientLimit (now (g .a)) = a .all-i16 .ensures in
+    let a-is : a .coefficients-fine .result ≡ coefficientsFine (now (g .a)) = a .coefficients-fine .ensures in
     let t-is : t .all-u16 .result ≡ allUpToLimit toleranceLimit (now (g .t)) = t .all-u16 .ensures in
     let b-is : b .all-i32 .result ≡ allWithinLimit rightSideLimit (now (g .b)) = b .all-i32 .ensures in
     let f-is : f .all-u32 .result ≡ allUpToLimit rightToleranceLimit (now (g .f)) = f .all-u32 .ensures in
@@ -67,8 +69,8 @@ check-case-spec =
     (λ c κs. search needs)
     returns
     (λ c κs. limits c .small)
-    (λ c. omega (arith, square-fits _ (limits (c .before) .small)))
-    (λ c. omega (arith, square-fits _ (limits (c .before) .small)))
+    (λ c κs. limits (c .before) .small)
+    (λ c. omega (arith, square-fits _ (limits (c .before .before) .small)))
     returns-2
     (λ c κs. search needs)
     (λ c κs. search needs)

@@ -4,8 +4,8 @@ use borrow.Author.Needs.{needs}
 use denote.Ref.{now}
 use mathlib.Core.List.{[], _∷_}
 use Rattle.buffer.specs.WroteLaws.{Rooms, room-here, room-after, wrote-first, wrote-last}
-use Rattle.decimal.specs.Decimal.{ascii}
-use Rattle.report.specs.Text.{labelled, lineFeed, refusalText}
+use Rattle.decimal.specs.Decimal.{lineFeed, ascii}
+use Rattle.report.specs.Text.{labelled, refusalText}
 use Rattle.report.proofs.render_refusal.Statement.{statement}
 use Rattle.report.proofs.render_refusal.Tie as tie
 

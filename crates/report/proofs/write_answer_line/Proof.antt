@@ -14,8 +14,8 @@ use native.Mathlib.Omega.{arith}
 use Rattle.buffer.specs.Buffer.{Room, Wrote}
 use Rattle.buffer.specs.WroteLaws.{Rooms, room-here, room-after, wrote-first, wrote-last}
 use Rattle.integers.specs.Size.{size-sfits}
-use Rattle.decimal.specs.Decimal.{fixedPoint, ascii}
-use Rattle.report.specs.Text.{labelled, answerLine, lineFeed, answerRoom}
+use Rattle.decimal.specs.Decimal.{lineFeed, fixedPoint, ascii}
+use Rattle.report.specs.Text.{labelled, answerLine, answerRoom}
 use Rattle.report.specs.TextLaws.{length-answer-line}
 use Rattle.report.proofs.write_answer_line.Statement.{statement}
 use Rattle.report.proofs.write_answer_line.Tie as tie

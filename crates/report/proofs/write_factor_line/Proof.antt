@@ -10,7 +10,8 @@ use native.Mathlib.Nat.{lt-of-lt-of-le}
 use native.Mathlib.Omega.{arith}
 use Rattle.buffer.specs.Buffer.{Room}
 use Rattle.buffer.specs.WroteLaws.{Rooms, room-here, room-after, wrote-first, wrote-last}
-use Rattle.report.specs.Text.{labelled, factorWord, factorLine, lineFeed, factorRoom}
+use Rattle.decimal.specs.Decimal.{lineFeed}
+use Rattle.report.specs.Text.{labelled, factorWord, factorLine, factorRoom}
 use Rattle.report.specs.TextLaws.{length-factor-line}
 use Rattle.report.proofs.write_factor_line.Statement.{statement}
 use Rattle.report.proofs.write_factor_line.Tie as tie

@@ -13,8 +13,8 @@ use native.Mathlib.Omega.{arith}
 use Rattle.buffer.specs.Buffer.{Room, Wrote}
 use Rattle.buffer.specs.WroteLaws.{Rooms, room-here, room-after, wrote-first, wrote-last}
 use Rattle.integers.specs.Size.{size-sfits}
-use Rattle.decimal.specs.Decimal.{signedDecimal, ascii}
-use Rattle.report.specs.Text.{labelled, rowLine, lineFeed, rowRoom}
+use Rattle.decimal.specs.Decimal.{lineFeed, signedDecimal, ascii}
+use Rattle.report.specs.Text.{labelled, rowLine, rowRoom}
 use Rattle.report.specs.TextLaws.{length-row-line}
 use Rattle.report.proofs.write_row_line.Statement.{statement}
 use Rattle.report.proofs.write_row_line.Tie as tie

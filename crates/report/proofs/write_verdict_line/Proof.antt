@@ -10,8 +10,8 @@ use native.Mathlib.Nat.{lt-of-lt-of-le}
 use native.Mathlib.Omega.{arith}
 use Rattle.buffer.specs.Buffer.{Room}
 use Rattle.buffer.specs.WroteLaws.{Rooms, room-here, room-after, wrote-first, wrote-last}
-use Rattle.decimal.specs.Decimal.{ascii}
-use Rattle.report.specs.Text.{labelled, verdictWord, verdictLine, lineFeed, verdictRoom}
+use Rattle.decimal.specs.Decimal.{lineFeed, ascii}
+use Rattle.report.specs.Text.{labelled, verdictWord, verdictLine, verdictRoom}
 use Rattle.report.specs.TextLaws.{length-verdict-line}
 use Rattle.report.proofs.write_verdict_line.Statement.{statement}
 use Rattle.report.proofs.write_verdict_line.Tie as tie
