@@ -90,34 +90,6 @@ unfolding entriesOf
 length-entries zero s = refl
 length-entries (suc m) s = ap suc (length-entries m (afterEntry s))
 
--- ---- a text that is changed in these ways is read
-
-tanks-pass : (n : ℕ) → 1 ≤ n → n ≤ mostTanks → tanksFine n ≡ true
-tanks-pass n h k = rw (le-leb 1 n h, le-leb n mostTanks k)
-
-pub varied-read : {n : ℕ} {A : List ℤ} {text : List ℕ} → MatrixFine n A → Varied n A text → ReadAs n A text
-unfolding variedText textStatus coefficientsIn
-varied-read {n} {A} {text} good v =
-    let E : List ℕ = joined formLine (v .forms) in
-    let S : List ℕ = spacedSizeLine (v .more) n ++ E in
-    let C : List ℕ = joined commentLine (v .comments) ++ S in
-    let size = size-read n (v .more) E (tanks-pass n (good .least) (good .small)) in
-    let first : beginsWith firstLine text ≡ true = rw (v .is) (begins-append firstLine C) in
-    let behind : drop (length firstLine) text ≡ C = rw (v .is) (drop-at firstLine C (length firstLine) refl) in
-    let at-size : atSize text ≡ S = ap (afterComments false) behind ∙ comments-passed (v .comments) (digit n) _ (v .in-lines) (ne-eqb (digit n) 37 (λ h. absurd (omega arith))) in
-    let tanks : tanksIn text ≡ n = ap sizeOf at-size ∙ size .size in
-    let entries : atEntries text ≡ E = ap afterSize at-size ∙ size .behind in
-    let fine : sizeFine (atSize text) ≡ true = ap sizeFine at-size ∙ size .fine in
-    let count : length (v .forms) ≡ n * n = sym (length-map (v .forms) (λ f. f .entry)) ∙ ap length (v .entries) ∙ length-transpose n A in
-    let r = forms-read (v .forms) (v .few) (λ k. rw (v .entries) (entry-within n A good k)) in
-    let whole : entriesFine (n * n) E ≡ true = rw (← count) (r .fine) in
-    let read : entriesOf (n * n) E ≡ transpose n A = ap (λ (m : ℕ). entriesOf m E) (sym count) ∙ r .entries ∙ v .entries in
-    record {
-      accepted = rw (first, fine, tanks, entries, whole);
-      tanks = tanks;
-      coefficients = rw (tanks, entries, read) (transpose-twice n A (good .entries .count));
-    }
-
 -- ---- a text that is read is the writer's, changed in these ways only
 
 module _ (text : List ℕ) (e : textStatus text ≡ Accepted) where
@@ -194,6 +166,34 @@ module _ (text : List ℕ) (e : textStatus text ≡ Accepted) where
             begins-front firstLine text first-passed
             ∙ ap (λ (l : List ℕ). firstLine ++ l) (c .is ∙ ap (λ (l : List ℕ). joined commentLine (c .comments) ++ l) (size-line (atSize text) size-passed ∙ ap (λ (l : List ℕ). spacedSizeLine more n ++ l) (found .is)));
       }
+
+-- ---- a text that is changed in these ways is read
+
+tanks-pass : (n : ℕ) → 1 ≤ n → n ≤ mostTanks → tanksFine n ≡ true
+tanks-pass n h k = rw (le-leb 1 n h, le-leb n mostTanks k)
+
+pub varied-read : {n : ℕ} {A : List ℤ} {text : List ℕ} → MatrixFine n A → Varied n A text → ReadAs n A text
+unfolding variedText textStatus coefficientsIn
+varied-read {n} {A} {text} good v =
+    let E : List ℕ = joined formLine (v .forms) in
+    let S : List ℕ = spacedSizeLine (v .more) n ++ E in
+    let C : List ℕ = joined commentLine (v .comments) ++ S in
+    let size = size-read n (v .more) E (tanks-pass n (good .least) (good .small)) in
+    let first : beginsWith firstLine text ≡ true = rw (v .is) (begins-append firstLine C) in
+    let behind : drop (length firstLine) text ≡ C = rw (v .is) (drop-at firstLine C (length firstLine) refl) in
+    let at-size : atSize text ≡ S = ap (afterComments false) behind ∙ comments-passed (v .comments) (digit n) _ (v .in-lines) (ne-eqb (digit n) 37 (λ h. absurd (omega arith))) in
+    let tanks : tanksIn text ≡ n = ap sizeOf at-size ∙ size .size in
+    let entries : atEntries text ≡ E = ap afterSize at-size ∙ size .behind in
+    let fine : sizeFine (atSize text) ≡ true = ap sizeFine at-size ∙ size .fine in
+    let count : length (v .forms) ≡ n * n = sym (length-map (v .forms) (λ f. f .entry)) ∙ ap length (v .entries) ∙ length-transpose n A in
+    let r = forms-read (v .forms) (v .few) (λ k. rw (v .entries) (entry-within n A good k)) in
+    let whole : entriesFine (n * n) E ≡ true = rw (← count) (r .fine) in
+    let read : entriesOf (n * n) E ≡ transpose n A = ap (λ (m : ℕ). entriesOf m E) (sym count) ∙ r .entries ∙ v .entries in
+    record {
+      accepted = rw (first, fine, tanks, entries, whole);
+      tanks = tanks;
+      coefficients = rw (tanks, entries, read) (transpose-twice n A (good .entries .count));
+    }
 
 -- ---- the writer's text itself
 
