@@ -1,11 +1,11 @@
 -- Digits at a text's front: the loop that reads them, that reading is the inverse of writing, also behind leading zeros, and that every row of digits is so
 -- written. Assumes nothing.
 use Prim.Native.Nat.{ℕ, zero, suc, _+_, _*_, _-_, _/_, _%_, _^_, _≤_, _<_}
-use borrow.Author.Tests.{le-leb, leb-true, lt-leb}
+use borrow.Author.Tests.{le-leb, leb-true}
 use lib.Dec.{lit≤, leb}
-use lib.ListN.{length, getD, take, drop, replicate, length-append, length-take, length-replicate, List·getD-append}
-use lib.Seq.{take-suc, take-at, getD-take, length-take-le}
-use mathlib.Core.Bool.{Bool, true, false, _&&_}
+use lib.ListN.{length, getD, take, replicate, length-append, length-take, length-replicate}
+use lib.Seq.{take-suc, take-at, getD-take}
+use mathlib.Core.Bool.{Bool, true, false}
 use mathlib.Core.List.{List, [], _∷_, _++_, append-nil, append-assoc}
 use mathlib.Core.Path.{_≡_, refl, sym, ap, _∙_}
 use native.Mathlib.Decide.{ℕ-discrete}
@@ -14,12 +14,11 @@ use native.Mathlib.Numerals.{add-one}
 use native.Mathlib.Omega.{arith}
 use Rattle.buffer.specs.AllLaws.{and-true, all-append}
 use Rattle.buffer.specs.Buffer.{all, leading}
-use Rattle.buffer.specs.LeadingLaws.{leading-le, leading-append, leading-stops, leading-pass, Counting, count-begun, count-turn, count-stopped, count-ended}
+use Rattle.buffer.specs.LeadingLaws.{leading-stops, Counting, count-begun, count-turn, count-stopped, count-ended}
 use Rattle.decimal.specs.Decimal.{digit, decimalDigits}
 use Rattle.decimal.specs.DigitLaws.{digits-one, digits-more, by-tenths}
 use Rattle.decimal.specs.Reading.{valueFrom, value, isDigit, mostDigits, digitsIn, DigitsRead}
 use Rattle.decimal.specs.ReadingLaws.{value-snoc, value-digits}
-use Rattle.decimal.specs.declared.Digits.{Digits}
 
 -- ---- a digit
 

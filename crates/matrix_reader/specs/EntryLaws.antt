@@ -1,9 +1,9 @@
 -- An entry's line, and the lines of so many entries, as the reader's code meets them. Assumes nothing.
-use Prim.Native.Nat.{ℕ, zero, suc, _+_, _-_, _≤_, _<_}
+use Prim.Native.Nat.{ℕ, suc, _+_, _-_, _≤_, _<_}
 use borrow.Author.Tests.{eq-eqb, ne-eqb, eqb-true, eqb-false, leb-true}
 use lib.Dec.{leb, eqb}
 use lib.IntN.{ℤ, pos, negℤ}
-use lib.ListN.{length, getD, take, drop, set, length-append, length-take, length-drop, length-set}
+use lib.ListN.{length, take, drop, set, length-append, length-take, length-drop, length-set}
 use lib.Seq.{drop-drop, length-take-le, take-suc-set, append-snoc}
 use mathlib.Core.Bool.{Bool, true, false, false≢true, _&&_, cond}
 use mathlib.Core.List.{List, [], _∷_, _++_, append-nil}
@@ -16,10 +16,10 @@ use Rattle.buffer.specs.AllLaws.{and-true}
 use Rattle.buffer.specs.Buffer.{leading, beginsWith}
 use Rattle.buffer.specs.LeadingLaws.{leading-le, begins-front}
 use Rattle.decimal.specs.Decimal.{lineFeed}
-use Rattle.decimal.specs.Reading.{value, negative, isDigit, digitsIn, DigitsRead}
+use Rattle.decimal.specs.Reading.{value, negative, isDigit, DigitsRead}
 use Rattle.decimal.specs.declared.Digits.{Digits}
 use Rattle.matrixfile.specs.Read.{mostEntryDigits, afterMinus, entryDigits, entryFine, entryOf, afterEntry, entriesFine, entriesOf}
-use Rattle.matrix_reader.specs.Parts.{LeavesBehind, EntryRead, EntriesRead}
+use Rattle.matrix_reader.specs.Parts.{EntryRead, EntriesRead}
 use Rattle.matrix_reader.specs.declared.Entry.{Entry}
 
 -- ---- the sign

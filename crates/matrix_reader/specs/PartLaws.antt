@@ -1,15 +1,15 @@
 -- The parts of a text, as the reader's loops meet them. Assumes nothing.
-use Prim.Native.Nat.{ℕ, zero, suc, _+_, _≤_, _<_}
+use Prim.Native.Nat.{ℕ, _+_, _≤_, _<_}
 use lib.Dec.{eqb, leb}
-use lib.ListN.{length, getD, take, drop, length-append, length-drop, drop-of-length-le}
+use lib.ListN.{length, getD, drop, length-append, length-drop, drop-of-length-le}
 use lib.Seq.{drop-cons, drop-drop}
 use mathlib.Core.Bool.{Bool, true, false, false≢true, _&&_, _||_, not}
-use mathlib.Core.List.{List, [], _∷_, _++_}
+use mathlib.Core.List.{List, [], _∷_}
 use mathlib.Core.Path.{_≡_, refl, sym, ap, _∙_}
 use native.Mathlib.Numerals.{add-one}
 use native.Mathlib.Omega.{arith}
 use Rattle.buffer.specs.AllLaws.{and-true}
-use Rattle.buffer.specs.Buffer.{leading, beginsWith}
+use Rattle.buffer.specs.Buffer.{beginsWith}
 use Rattle.buffer.specs.LeadingLaws.{begins-front}
 use Rattle.decimal.specs.Decimal.{lineFeed}
 use Rattle.casefile.specs.Case.{tanksFine}

@@ -1,9 +1,9 @@
 -- What header and entries, as they were read, make of the whole text. Assumes nothing.
-use Prim.Native.Nat.{ℕ, _*_, _≤_}
+use Prim.Native.Nat.{ℕ, _*_}
 use borrow.Author.Tests.{leb-true}
 use lib.Dec.{leb}
 use lib.IntN.{ℤ}
-use lib.ListN.{length, take, drop}
+use lib.ListN.{drop}
 use mathlib.Core.Bool.{Bool, true, false, _&&_}
 use mathlib.Core.List.{List}
 use mathlib.Core.Path.{_≡_, sym, ap, _∙_}
@@ -14,7 +14,7 @@ use Rattle.outcome.specs.declared.Refusal.the-variants.{WrongMatrixHeader, Wron
 use Rattle.outcome.specs.declared.Status.the-variants.{Accepted, Refused}
 use Rattle.casefile.specs.Case.{tanksFine}
 use Rattle.casefile.specs.RowsLaws.{square-fits}
-use Rattle.matrixfile.specs.Read.{sizeFine, atSize, tanksIn, atEntries, entriesFine, entriesOf, textStatus, coefficientsIn}
+use Rattle.matrixfile.specs.Read.{sizeFine, atSize, tanksIn, atEntries, textStatus, coefficientsIn}
 use Rattle.matrixfile.specs.Text.{firstLine, transpose}
 use Rattle.matrixfile.specs.TextLaws.{transpose-front}
 use Rattle.matrix_reader.specs.Parts.{HeaderRead, EntriesRead, Square}

@@ -1,24 +1,22 @@
 -- The calls as their users see them: what was written is read as what was meant, which texts are read alike, what a reading leaves, and that the case writer
 -- takes it. Assumes nothing.
 use Prim.Native.Nat.{ℕ, _*_, _≤_}
-use borrow.Author.Tests.{le-leb, eq-eqb}
+use borrow.Author.Tests.{eq-eqb}
 use lib.Dec.{leb}
 use lib.IntN.{ℤ, pos}
 use lib.ListN.{length, take, replicate, length-replicate}
-use mathlib.Core.Bool.{true}
 use mathlib.Core.List.{List}
-use mathlib.Core.Path.{_≡_, refl, sym, ap, _∙_}
+use mathlib.Core.Path.{_≡_, refl, sym}
 use Rattle.limits.specs.Limits.{mostCoefficients, coefficientLimit}
 use Rattle.buffer.specs.AllLaws.{all-replicate}
-use Rattle.buffer.specs.Buffer.{onto, all}
+use Rattle.buffer.specs.Buffer.{onto}
 use Rattle.buffer.specs.Laws.{take-onto}
-use Rattle.outcome.specs.CallResult.{callResult, leaveIfAccepted, checkRoom}
-use Rattle.outcome.specs.CallResultLaws.{LeftCount, left-count, left-whole}
+use Rattle.outcome.specs.CallResult.{callResult, checkRoom}
+use Rattle.outcome.specs.CallResultLaws.{left-count, left-whole}
 use Rattle.outcome.specs.Laws.{first-right}
-use Rattle.outcome.specs.Outcome.{check, first, reportedOutcome}
+use Rattle.outcome.specs.Outcome.{check, reportedOutcome}
 use Rattle.outcome.specs.declared.Outcome.the-variants.{Count}
 use Rattle.outcome.specs.declared.Refusal.the-variants.{BufferTooShort}
-use Rattle.outcome.specs.declared.Status.the-variants.{Accepted}
 use Rattle.figures.specs.Figures.{withinLimit}
 use Rattle.casefile.specs.Case.{caseOfLists, counted, rowsFine, figuresFine, caseStatus}
 use Rattle.matrixfile.specs.Read.{tanksIn, textStatus, coefficientsIn, readMatrix}

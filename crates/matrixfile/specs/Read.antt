@@ -3,8 +3,8 @@
 use Prim.Native.Nat.{ℕ, zero, suc, _+_, _*_, _-_}
 use lib.Dec.{leb, eqb}
 use lib.IntN.{ℤ, pos, negℤ}
-use lib.ListN.{length, getD, take, drop}
-use mathlib.Core.Bool.{Bool, true, false, _&&_, _||_, not, cond}
+use lib.ListN.{length, getD, drop}
+use mathlib.Core.Bool.{Bool, false, _&&_, _||_, not, cond}
 use mathlib.Core.List.{List, [], _∷_}
 use Rattle.limits.specs.Limits.{mostCoefficients, coefficientLimit}
 use Rattle.buffer.specs.Buffer.{leading, beginsWith}
@@ -13,7 +13,7 @@ use Rattle.outcome.specs.Outcome.{check, first}
 use Rattle.outcome.specs.declared.Refusal.the-variants.{WrongMatrixHeader, WrongMatrixEntry}
 use Rattle.outcome.specs.declared.Status.{Status}
 use Rattle.decimal.specs.Decimal.{lineFeed, digit}
-use Rattle.decimal.specs.Reading.{value, negative, isDigit, digitsIn}
+use Rattle.decimal.specs.Reading.{value, negative, digitsIn}
 use Rattle.casefile.specs.Case.{tanksFine}
 use Rattle.matrixfile.specs.Text.{firstLine, transpose}
 

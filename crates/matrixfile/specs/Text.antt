@@ -3,7 +3,7 @@
 use Prim.Native.Nat.{ℕ, _+_, _*_, _/_, _%_}
 use lib.IntN.{ℤ, pos}
 use lib.ListN.{length, getD}
-use mathlib.Core.List.{List, [], _∷_, _++_}
+use mathlib.Core.List.{List, _∷_, _++_}
 use Rattle.buffer.specs.Buffer.{joined}
 use Rattle.outcome.specs.CallResult.{CallResult, writeIfAccepted, checkRoom}
 use Rattle.outcome.specs.Outcome.{check, first}

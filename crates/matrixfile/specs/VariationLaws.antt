@@ -1,9 +1,9 @@
 -- Which texts are read: the writer's, and those that are changed in the ways of `Variation` alone. Assumes nothing.
 use Prim.Native.Nat.{ℕ, zero, suc, _*_, _-_, _≤_, _<_}
 use borrow.Author.Tests.{leb-true, le-leb, eqb-true, ne-eqb}
-use lib.Dec.{leb, eqb, lit<}
+use lib.Dec.{leb, lit<}
 use lib.IntN.{ℤ, pos, natAbs}
-use lib.ListN.{length, getD, drop, length-append, length-map}
+use lib.ListN.{length, getD, drop, length-map}
 use lib.Seq.{drop-at}
 use mathlib.Core.Bool.{Bool, true, false, true≢false, false≢true, _&&_}
 use mathlib.Core.List.{List, [], _∷_, _++_, append-assoc, map}
@@ -20,14 +20,13 @@ use Rattle.figures.specs.Figures.{withinLimit}
 use Rattle.decimal.specs.Decimal.{lineFeed, digit, decimalDigits, minusSign, signedDecimal}
 use Rattle.decimal.specs.DigitLaws.{length-digits}
 use Rattle.casefile.specs.Case.{tanksFine}
-use Rattle.casefile.specs.SoundLaws.{Sound}
 use Rattle.matrixfile.specs.CommentLaws.{comments-passed, comment-lines}
 use Rattle.matrixfile.specs.EntryLaws.{form-read, form-found}
 use Rattle.matrixfile.specs.Read.{afterComments, sizeOf, spacesIn, sizeFine, afterSize, mostEntryDigits, entryFine, entryOf, afterEntry, entriesFine, entriesOf, atSize, tanksIn, atEntries, textStatus, coefficientsIn}
 use Rattle.matrixfile.specs.SizeLaws.{size-read, size-line}
-use Rattle.matrixfile.specs.Text.{firstLine, sizeLine, entryLine, transpose, matrixText, matrixStatus}
+use Rattle.matrixfile.specs.Text.{firstLine, entryLine, transpose, matrixText}
 use Rattle.matrixfile.specs.TextLaws.{length-transpose, transpose-twice, transpose-at, MatrixFine, entry-within}
-use Rattle.matrixfile.specs.Variation.{inLine, commentLine, spacedSizeLine, Form, formMinus, formDigits, formLine, formFits, variedText, Varied, ReadAs}
+use Rattle.matrixfile.specs.Variation.{commentLine, spacedSizeLine, Form, formLine, formFits, variedText, Varied, ReadAs}
 
 -- ---- the lines of all entries
 

@@ -1,7 +1,6 @@
 -- `matrix_reader::write_rows` meets its contract. The loop's invariant: the first k places hold the entries row after row, and the others what they held.
 -- Assumes nothing.
 use Prim.Native.Nat.{_*_, _-_, _≤_, _<_}
-use borrow.Author.Needs.{needs}
 use lib.ListN.{length}
 use mir.Facts.{toZ-ofZ}
 use mir.Syntax.{w16}
