@@ -33,7 +33,7 @@ extern "C" {
 #define BALLAST_CASE_ROOM 388     /* the longest case, and the shortest buffer for one */
 #define BALLAST_TEXT_ROOM 800     /* no printed verdict is longer, and the shortest buffer for one */
 #define BALLAST_SOUNDINGS_ROOM 16 /* two bytes for each of eight tanks, and the shortest buffer for soundings */
-#define BALLAST_MATRIX_ROOM 496   /* the longest matrix text that is written, and the shortest buffer for one; comments make a text longer */
+#define BALLAST_MATRIX_ROOM 496   /* the longest matrix text that is written, and the shortest buffer for one; one to be read may be longer */
 #define BALLAST_MATRIX_PLACES 64  /* the coefficients of eight tanks, and the shortest list for those of a matrix text */
 
 /* Measured and not proved: examples/run calls each function on a painted stack and finds 5,976 bytes changed at most. Where memcpy and

@@ -46,12 +46,12 @@ def of_every_length(stream, count):
     return [stream.between(-9, 9) * 10 ** stream.between(0, 3) for _ in range(count)]
 
 
-def counted(n):
+def distinct(n):
     """Entries of which no two are equal, below zero in turn."""
     return digits((-1) ** k * (100 * k + n) for k in range(n * n))
 
 
-def sound():
+def two_tanks():
     """Two tanks and a comment, every kind of line present."""
     return text_of(2, SMALL, b"% hull 7")
 
@@ -80,14 +80,14 @@ def every_size():
         texts += [text_of(n, digits(stream.list(count, -COEFFICIENT, COEFFICIENT))) for _ in range(4)]
         texts.append(text_of(n, digits(of_every_length(stream, count))))
         texts += [text_of(n, digits([figure] * count)) for figure in (COEFFICIENT, -COEFFICIENT, 0, -1)]
-        texts.append(text_of(n, counted(n)))
+        texts.append(text_of(n, distinct(n)))
     return with_long_lists(texts)
 
 
 def list_lengths():
     """Every length beside texts that are read and texts that are refused with 11 and 12."""
-    texts = [text_of(n, counted(n)) for n in (1, 2, 5, 8)]
-    texts += [b"", FIRST, joined(FIRST), joined(FIRST, b"9 9"), text_of(2, SMALL[:3]), sound() + b"\n"]
+    texts = [text_of(n, distinct(n)) for n in (1, 2, 5, 8)]
+    texts += [b"", FIRST, joined(FIRST), joined(FIRST, b"9 9"), text_of(2, SMALL[:3]), two_tanks() + b"\n"]
     return [(text, places) for text in texts for places in SHORT_LISTS + LONG_LISTS]
 
 
@@ -184,7 +184,7 @@ def comments_elsewhere():
     """A comment in every place, also behind the size line; one that ends the text and is not ended."""
     texts = []
     for n in (1, 2):
-        lines = [FIRST, b"% office", size_line(n), *counted(n)]
+        lines = [FIRST, b"% office", size_line(n), *distinct(n)]
         for place in range(1, len(lines) + 1):
             for line in (b"%", b"% entry", b"%1"):
                 texts += [joined(*lines[:place], line, *lines[place:]), joined(*lines[:place]) + line]
@@ -222,7 +222,7 @@ def size_lines():
     lines = SPACED + WRONG_SIZES
     texts = [joined(FIRST, line, *SMALL) for line in lines]
     texts += [joined(FIRST, b"% office", line, *SMALL) for line in lines[::4]]
-    texts += [joined(FIRST, size_line(n).replace(b" ", b""), *counted(n)) for n in range(1, 9)]
+    texts += [joined(FIRST, size_line(n).replace(b" ", b""), *distinct(n)) for n in range(1, 9)]
     texts += [joined(FIRST, line) for line in (b"2 2", b"9 9", b"2", b"")]
     texts += [joined(FIRST, *SMALL), joined(FIRST, b"%", *SMALL), joined(FIRST), joined(FIRST, b"%")]
     for line in (b"1 1", b"2 2", b"1", b"1 ", b"1  ", b"9 9"):
@@ -249,7 +249,7 @@ BAD_ENTRIES = (
 
 
 def with_entry(n, place, entry):
-    entries = counted(n)
+    entries = distinct(n)
     entries[place] = entry
     return text_of(n, entries)
 
@@ -277,7 +277,7 @@ TAILS = (
 
 def ends():
     """The last line feed missing, bytes behind it, and bytes in its place."""
-    one, two, eight = (text_of(n, counted(n)) for n in (1, 2, 8))
+    one, two, eight = (text_of(n, distinct(n)) for n in (1, 2, 8))
     texts = [one[:-1], two[:-1], eight[:-1], one + one, two + two]
     texts += [two + tail for tail in TAILS] + [one[:-1] + tail for tail in TAILS]
     return with_long_lists(texts + [eight + tail for tail in TAILS[::4]])
@@ -287,7 +287,7 @@ def counts():
     """Entries missing and too many, and several in one line."""
     texts = []
     for n in range(1, 9):
-        entries = counted(n)
+        entries = distinct(n)
         wrong = {0, 1, n - 1, n, n * n - n, n * n - 2, n * n - 1} & set(range(n * n))
         for count in sorted(wrong):
             texts.append(text_of(n, entries[:count]))
@@ -300,7 +300,7 @@ def counts():
 def cuts():
     """A text of two tanks cut at every byte, one of one tank behind its first line, the longest at its end."""
     one, longest = (text_of(n, digits([-COEFFICIENT] * (n * n))) for n in (1, 8))
-    texts = [sound()[:end] for end in range(len(sound()) + 1)]
+    texts = [two_tanks()[:end] for end in range(len(two_tanks()) + 1)]
     texts += [one[:end] for end in range(len(FIRST), len(one) + 1)]
     texts += [longest[:end] for end in range(len(longest) - 16, len(longest))]
     return with_long_lists(texts)
@@ -311,9 +311,9 @@ def cuts():
 
 def line_ends():
     """Carriage returns, blank lines, spaces and tabs at one line, at all of them, and from one on."""
-    lines = sound().split(b"\n")[:-1]
+    lines = two_tanks().split(b"\n")[:-1]
     others = (b"\r\n", b"\r", b"\n\r", b"\n\n", b" \n", b"\n ", b"\t\n", b"\x00")
-    texts = [sound().replace(b"\n", end) for end in others]
+    texts = [two_tanks().replace(b"\n", end) for end in others]
     for place in range(len(lines)):
         before, line, after = lines[:place], lines[place], lines[place + 1:]
         texts += [joined(*before, line + end, *after) for end in (b"\r", b" ", b"\t", b"\n\r")]
@@ -351,13 +351,13 @@ def precedence():
     """Every set of faults: an end, an entry, the size line, the first line and a short list."""
     calls = []
     for faults in range(1, 32):
-        for n in (1, 3):
+        for n, wrong_size, wrong_entry, tail in ((1, b"9 9", b"+1", b"\n"), (3, b"3 3 ", b"32768", b"%\n")):
             first = FIRST.lower() if faults & 8 else FIRST
-            size = (b"9 9", b"3 3 ")[n // 3] if faults & 4 else size_line(n)
-            entries = counted(n)
-            entries[n // 2] = (b"+1", b"32768")[n // 3] if faults & 2 else entries[n // 2]
-            tail = (b"\n", b"%\n")[n // 3] if faults & 1 else b""
-            calls.append((joined(first, b"% office", size, *entries) + tail, 63 if faults & 16 else 64))
+            size = wrong_size if faults & 4 else size_line(n)
+            entries = distinct(n)
+            entries[n // 2] = wrong_entry if faults & 2 else entries[n // 2]
+            text = joined(first, b"% office", size, *entries) + (tail if faults & 1 else b"")
+            calls.append((text, 63 if faults & 16 else 64))
     return calls
 
 
@@ -365,7 +365,7 @@ def two_entries():
     """An entry that is refused behind others that could be stored, and several that are refused."""
     texts = []
     for place in range(0, 16, 3):
-        entries = counted(4)
+        entries = distinct(4)
         entries[place] = b"40000"
         texts.append(text_of(4, entries))
         texts.append(text_of(4, entries[:place + 1]))
@@ -391,13 +391,13 @@ def all_reads():
 # ---------------------------------------------------------------- calls of writing
 
 
-def plain(n):
+def accepted(n):
     """Coefficients that are accepted for an n from 1 to 8, of one to four digits, below zero in turn."""
     return [(-1) ** k * (7 ** (k % 5) + k) for k in range(n * n)]
 
 
 def with_long_buffers(calls):
-    return [(*call, LONG_BUFFERS[i % 3]) for i, call in enumerate(calls)]
+    return [(*call, length) for call, length in families.with_buffers(calls, LONG_BUFFERS)]
 
 
 def random_writes():
@@ -417,7 +417,7 @@ def figure_writes():
     calls = [(1, [sign * size]) for size in sizes for sign in (1, -1)] + [(1, [-COEFFICIENT - 1])]
     for n in range(2, 9):
         for place in sorted({0, n - 1, n, n * n // 2, n * n - 1}):
-            coefficients = plain(n)
+            coefficients = accepted(n)
             coefficients[place] = -COEFFICIENT - 1
             calls.append((n, coefficients))
     return with_long_buffers(calls)
@@ -447,7 +447,7 @@ def size_writes():
 def buffer_writes():
     """Every length beside each n, the shortest text and the longest."""
     lengths = SHORT_BUFFERS + LONG_BUFFERS
-    calls = [(n, plain(n), length) for n in range(1, 9) for length in lengths]
+    calls = [(n, accepted(n), length) for n in range(1, 9) for length in lengths]
     calls += [(8, [-COEFFICIENT] * 64, length) for length in lengths]
     return calls + [(1, [0], length) for length in (50, *lengths)]
 
@@ -456,11 +456,11 @@ def precedence_writes():
     """Every set of faults: a figure, the count, n and a short buffer."""
     calls = []
     for faults in range(1, 16):
-        for n in (2, 8):
-            coefficients = plain(n)
+        for n, wrong in ((2, 10), (8, 0)):
+            coefficients = accepted(n)
             coefficients[-1] = -COEFFICIENT - 1 if faults & 1 else 0
             coefficients = coefficients + [0] if faults & 2 else coefficients
-            calls.append((n % 8 * 5 if faults & 4 else n, coefficients, 495 if faults & 8 else 496))
+            calls.append((wrong if faults & 4 else n, coefficients, 495 if faults & 8 else 496))
     return calls
 
 

@@ -32,5 +32,5 @@ needs_lapack() {
 # needs_scipy SCRIPT PYTHON: this Python has SciPy
 needs_scipy() {
     needs "$1" "$2"
-    "$2" -c 'import scipy.io' 2>/dev/null || { echo "$1 needs SciPy, and $2 has none (Debian: python3-scipy, for /usr/bin/python3)" >&2; exit 1; }
+    "$2" -c 'import scipy.io' 2>/dev/null || { echo "$1 needs SciPy, and $2 has none (Debian: python3-scipy; PYTHON may name another Python)" >&2; exit 1; }
 }

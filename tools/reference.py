@@ -26,7 +26,7 @@ LONGEST_CASE = 388
 # "The program `verdict` reads at most 389 bytes of standard input"
 MOST_INPUT = LONGEST_CASE + 1
 # "In writing a text buffer under 496 bytes, and in reading a list under 64 places, is refusal 1"
-LEAST_TEXT_BUFFER = 496
+LEAST_MATRIX_BUFFER = 496
 LEAST_PLACES = 64
 # "starting at 256 × A"
 WORKING_SCALE = 256
@@ -543,7 +543,7 @@ ENTRY_LINE = re.compile(rb"-?[0-9]{1,5}")
 
 
 # "one entry a line, column after column" / "The list is row after row" (either order from the other)
-def turned(figures, n):
+def transposed(figures, n):
     return [figures[j * n + i] for i in range(n) for j in range(n)]
 
 
@@ -601,7 +601,7 @@ def read_matrix(text, coefficients):
         n, entries = take_matrix(text)
     except Refused as refused:
         return Outcome(REFUSAL, refused.number)
-    coefficients[:n * n] = turned(entries, n)
+    coefficients[:n * n] = transposed(entries, n)
     return Outcome(COUNT, n)
 
 
@@ -614,13 +614,13 @@ def call_read_matrix(text, places, fill):
 
 # "no comments, single spaces, no leading zeros and a minus only below zero"
 def matrix_text(n, coefficients):
-    lines = [FIRST_LINE, b"%d %d" % (n, n), *(b"%d" % entry for entry in turned(coefficients, n))]
+    lines = [FIRST_LINE, b"%d %d" % (n, n), *(b"%d" % entry for entry in transposed(coefficients, n))]
     return b"".join(line + b"\n" for line in lines)
 
 
 # "Writing returns the text's length" / "in writing the case writer's 6, 4 and 6 then apply in their order"
 def write_matrix(n, coefficients, buffer):
-    number = writer_refusal((n,), [coefficients], [n * n], len(buffer), LEAST_TEXT_BUFFER)
+    number = writer_refusal((n,), [coefficients], [n * n], len(buffer), LEAST_MATRIX_BUFFER)
     if number:
         return Outcome(REFUSAL, number)
     return put(buffer, matrix_text(n, coefficients))
@@ -636,7 +636,7 @@ def call_write_matrix(n, coefficients, buffer_length, fill=0xA5):
 # ---------------------------------------------------------------- the changes a record yields
 
 
-# "the sign turned where Y is negative and no change where Y is zero"
+# "the sign transposed where Y is negative and no change where Y is zero"
 def sign(figure):
     return (figure > 0) - (figure < 0)
 

@@ -33,6 +33,8 @@ INPUTS = families.all_families()
 CALLS = sounding_calls.all_calls()
 MATRIX_READS = matrix_calls.all_reads()
 MATRIX_WRITES = matrix_calls.all_writes()
+# what every place of a list holds before a stored call: both bytes are A5
+PLACE_FILL = -0x5A5B
 
 
 # ---------------------------------------------------------------- independent definitions
@@ -225,6 +227,17 @@ def matrix_written(n, coefficients):
             figures = chr(48 + last) + figures
         text += ("-" if entry < 0 else "") + figures + "\n"
     return text.encode("ascii")
+
+
+def text_or_refusal(n, coefficients, length):
+    """The text of the writer in a buffer of this length; or 1, 6 or 4."""
+    if length < 496:
+        return 1
+    if n not in range(1, 9):
+        return 6
+    if len(coefficients) != n * n:
+        return 4
+    return 6 if max(map(abs, coefficients)) > 32_767 else matrix_written(n, coefficients)
 
 
 def small_case(stream, n, size, rounds=0):
@@ -867,7 +880,7 @@ class MatrixReading(unittest.TestCase):
                 entries[place] = line
                 self.lines_refused(12, b"2 2", *entries)
 
-    def test_every_figure(self):
+    def test_figures_over_their_range(self):
         for figure in range(-100_001, 100_002, 7):
             text = matrix_calls.text_of(1, [b"%d" % figure])
             if abs(figure) <= 32_767:
@@ -889,14 +902,14 @@ class MatrixReading(unittest.TestCase):
     def test_every_cut(self):
         for n in range(1, 9):
             head = matrix_calls.text_of(n, [], b"% office", b"%")
-            text = matrix_calls.text_of(n, matrix_calls.counted(n), b"% office", b"%")
+            text = matrix_calls.text_of(n, matrix_calls.distinct(n), b"% office", b"%")
             for end in range(len(text)):
                 self.refused(text[:end], 11 if end < len(head) else 12)
             self.assertEqual(len(self.read(text)), n * n)
 
     def test_list_lengths(self):
         for n in range(1, 9):
-            text = matrix_calls.text_of(n, matrix_calls.counted(n))
+            text = matrix_calls.text_of(n, matrix_calls.distinct(n))
             for places in range(64):
                 self.refused(text, 1, places)
             for places in range(64, 82):
@@ -920,7 +933,7 @@ class MatrixReading(unittest.TestCase):
                 text = matrix_calls.wide(stream, n)
                 coefficients = self.read(text)
                 lines = [line for line in text.split(b"\n")[1:-1] if not line.startswith(b"%")]
-                self.assertEqual(lines[0].split(b" ")[::len(lines[0]) - 2], [b"%d" % n] * 2)
+                self.assertEqual(lines[0].split(), [b"%d" % n] * 2)
                 narrow = [(b"-" if int(line) < 0 else b"") + (line.lstrip(b"-0") or b"0") for line in lines[1:]]
                 same = matrix_calls.text_of(n, narrow)
                 self.assertEqual(matrix_written(n, coefficients), same)
@@ -981,7 +994,7 @@ class MatrixWriting(unittest.TestCase):
         self.assertEqual(max(len(self.write(n, [-32_767] * (n * n))) for n in range(1, 9)), 496)
         self.assertEqual(len(self.write(1, [0])), 50)
 
-    def test_every_figure(self):
+    def test_figures_over_their_range(self):
         for figure in range(-32_767, 32_768, 3):
             self.assertEqual(self.write(1, [figure]), matrix_written(1, [figure]))
 
@@ -1008,14 +1021,13 @@ class MatrixWriting(unittest.TestCase):
     def test_against_the_text_built_up(self):
         found = Counter()
         for n, coefficients, length in MATRIX_WRITES:
-            due = n * n == len(coefficients)
-            number = 1 if length < 496 else 6 if n not in range(1, 9) else 4 if not due else 6
-            if number == 6 and due and n in range(1, 9) and max(map(abs, coefficients)) <= 32_767:
-                self.assertEqual(self.write(n, coefficients, length), matrix_written(n, coefficients))
-                found[f"n {n}"] += 1
-            else:
-                self.refused(n, coefficients, length, number)
-                found[number] += 1
+            expected = text_or_refusal(n, coefficients, length)
+            if isinstance(expected, int):
+                self.refused(n, coefficients, length, expected)
+                found[expected] += 1
+                continue
+            self.assertEqual(self.write(n, coefficients, length), expected)
+            found[f"n {n}"] += 1
         self.assertGreaterEqual(len(MATRIX_WRITES), 200)
         self.assertEqual(set(found), {1, 4, 6, *(f"n {n}" for n in range(1, 9))})
         self.assertGreaterEqual(min(found.values()), 10)
@@ -1160,12 +1172,12 @@ class StoredForms(unittest.TestCase):
         self.assertLessEqual(len(text), 600)
         places = stored.number()
         self.assertLessEqual(places, 80)
-        outcome, coefficients = reference.call_read_matrix(text, places, -0x5A5B)
+        outcome, coefficients = reference.call_read_matrix(text, places, PLACE_FILL)
         refused, number = stored.number(1) == 1, stored.number()
         self.assertEqual((outcome.kind == REFUSAL, outcome.number), (refused, number))
         count = 0 if refused else number ** 2
         due = [int.from_bytes(stored.take(2), "big", signed=True) for _ in range(count)]
-        self.assertEqual(coefficients, due + [-0x5A5B] * (places - count))
+        self.assertEqual(coefficients, due + [PLACE_FILL] * (places - count))
 
     def check_matrix_write(self, stored):
         n, coefficients = stored.number(), stored.figures(2, True)
@@ -1209,7 +1221,7 @@ def depths_left(inputs):
 
 
 def matrices_read(inputs):
-    return [reference.call_read_matrix(text, places, -0x5A5B) for _, text, places in inputs]
+    return [reference.call_read_matrix(text, places, PLACE_FILL) for _, text, places in inputs]
 
 
 def matrices_written(calls):
@@ -1218,6 +1230,10 @@ def matrices_written(calls):
 
 class Caught:
     """Each mistake put into the reference changes at least one result of the inputs."""
+
+    @classmethod
+    def setUpClass(cls):
+        cls.right = cls.results(cls.inputs)
 
     def caught(self, name, wrong, least=3):
         with mock.patch.object(reference, name, wrong):
@@ -1230,11 +1246,7 @@ class Mistakes(Caught, unittest.TestCase):
     """Mistakes in records and printed verdicts, over the vectors."""
 
     results = staticmethod(results)
-
-    @classmethod
-    def setUpClass(cls):
-        cls.inputs = [(data, length) for _, data, length in INPUTS if length >= 180 and len(data) < 160]
-        cls.right = results(cls.inputs)
+    inputs = [(data, length) for _, data, length in INPUTS if length >= 180 and len(data) < 160]
 
     def test_rounding(self):
         self.caught("rnd", lambda p, q: (2 * p + q) // (2 * q))
@@ -1366,11 +1378,7 @@ class SoundingMistakes(Caught, unittest.TestCase):
     """Mistakes in depths, over the calls of the soundings."""
 
     results = staticmethod(depths_left)
-
-    @classmethod
-    def setUpClass(cls):
-        cls.inputs = [(data, length) for name, data, length in CALLS if len(data) < 90 or name == "every depth"]
-        cls.right = depths_left(cls.inputs)
+    inputs = [(data, length) for name, data, length in CALLS if len(data) < 90 or name == "every depth"]
 
     def test_depth(self):
         right = reference.depth
@@ -1429,19 +1437,15 @@ class MatrixReadingMistakes(Caught, unittest.TestCase):
     """Mistakes in reading Matrix Market files, over the stored calls."""
 
     results = staticmethod(matrices_read)
-
-    @classmethod
-    def setUpClass(cls):
-        cls.inputs = MATRIX_READS
-        cls.right = matrices_read(cls.inputs)
+    inputs = MATRIX_READS
 
     def forms(self, name, *wrong):
         for form in wrong:
             self.caught(name, re.compile(form))
 
     def test_order_of_the_entries(self):
-        self.caught("turned", lambda figures, n: figures)
-        self.caught("turned", lambda figures, n: figures[::-1])
+        self.caught("transposed", lambda figures, n: figures)
+        self.caught("transposed", lambda figures, n: figures[::-1])
 
     def test_entries(self):
         self.forms("ENTRY_LINE", rb"-?[0-9]{1,6}", rb"-?[0-9]{1,4}", rb"[-+]?[0-9]{1,5}", rb"[0-9]{1,5}",
@@ -1554,15 +1558,11 @@ class MatrixWritingMistakes(Caught, unittest.TestCase):
     """Mistakes in writing Matrix Market files, over the stored calls."""
 
     results = staticmethod(matrices_written)
-
-    @classmethod
-    def setUpClass(cls):
-        cls.inputs = MATRIX_WRITES
-        cls.right = matrices_written(cls.inputs)
+    inputs = MATRIX_WRITES
 
     def test_text(self):
         right = reference.matrix_text
-        self.caught("turned", lambda figures, n: figures)
+        self.caught("transposed", lambda figures, n: figures)
         self.caught("FIRST_LINE", reference.FIRST_LINE + b"\n%")
         self.caught("matrix_text", lambda n, figures: right(n, [abs(figure) for figure in figures]))
         self.caught("matrix_text", lambda n, figures: right(n, figures)[:-1])
@@ -1573,7 +1573,7 @@ class MatrixWritingMistakes(Caught, unittest.TestCase):
     def test_checks(self):
         right = reference.writer_refusal
         for least in (388, 494, 495, 497):
-            self.caught("LEAST_TEXT_BUFFER", least)
+            self.caught("LEAST_MATRIX_BUFFER", least)
         for name, lowest, highest in (("A", -32_768, 32_767), ("A", -32_767, 32_766), ("A", -32_766, 32_767),
                                       ("n", 0, 8), ("n", 1, 9), ("n", 1, 255), ("n", 2, 8), ("n", 1, 7)):
             self.caught("FIGURES", with_limits(name, lowest, highest), 1)

@@ -92,7 +92,7 @@ def as_many(count):
     return count
 
 
-def square_bytes(n):
+def coefficient_bytes(n):
     """How many bytes n × n coefficients have."""
     return 2 * n * n
 
@@ -157,7 +157,7 @@ def make_writes():
     return b"".join(parts) + END_MARK + b"\xff"
 
 
-def read_matrix(text, places, fill):
+def read_to_bytes(text, places, fill):
     """The outcome of reading for a text, and the list afterwards as bytes, each of which was filled before."""
     assert len(text) <= 600 and places <= 80
     filled = int.from_bytes(bytes([fill, fill]), "big", signed=True)
@@ -182,7 +182,7 @@ def make_files():
         "texts.bin": make_texts(inputs),
         "writes.bin": make_writes(),
         "soundings.bin": make_calls(reference.call_soundings, sounding_calls.all_calls()),
-        "matrix_reads.bin": make_calls(read_matrix, matrix_calls.all_reads(), square_bytes),
+        "matrix_reads.bin": make_calls(read_to_bytes, matrix_calls.all_reads(), coefficient_bytes),
         "matrix_writes.bin": make_matrix_writes(),
     }
 

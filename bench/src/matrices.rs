@@ -161,17 +161,17 @@ fn comment(random: &mut Random) -> Vec<u8> {
 fn spoil_line(lines: &mut [Vec<u8>], n: usize, random: &mut Random) {
     let size_at = lines.len() - n * n - 1;
     let (at, line) = match random.below(4) {
-        0 => (0, random.pick(&FIRST_LINES).to_string()),
-        1 => (size_at, size_line(n, random)),
+        0 => (0, random.pick(&WRONG_FIRST_LINES).to_string()),
+        1 => (size_at, spoiled_size_line(n, random)),
         _ => (
             size_at + 1 + random.below(n * n),
-            random.pick(&ENTRIES).to_string(),
+            random.pick(&EDGE_ENTRIES).to_string(),
         ),
     };
     lines[at] = line.into();
 }
 
-const FIRST_LINES: [&str; 12] = [
+const WRONG_FIRST_LINES: [&str; 12] = [
     "",
     "%",
     "%%MatrixMarket matrix array integer general ",
@@ -186,7 +186,8 @@ const FIRST_LINES: [&str; 12] = [
     "%MatrixMarket matrix array integer general",
 ];
 
-fn size_line(n: usize, random: &mut Random) -> String {
+/// Wrong, unless the other number is a size by chance.
+fn spoiled_size_line(n: usize, random: &mut Random) -> String {
     let other = random.below(12);
     match random.below(12) {
         0 => String::new(),
@@ -204,22 +205,23 @@ fn size_line(n: usize, random: &mut Random) -> String {
     }
 }
 
-const ENTRIES: [&str; 30] = [
+/// Malformed, in forms that the writer does not use, and at and past the limits.
+const EDGE_ENTRIES: [&str; 30] = [
     "", "-", "--1", "+1", " 1", "1 ", "1\r", "\t1", "1.0", "1e1", "1 1", "1-", "/", ":", "x", "\0",
     "%", "% 1", "-0", "00000", "-00007", "000007", "32767", "-32767", "32768", "-32768", "65535",
     "-65537", "99999", "100000",
 ];
 
-/// Removes a line, and perhaps puts it or another one in elsewhere.
+/// Takes a line out, or chooses another, and puts it in anywhere, up to two times.
 fn spoil_order(lines: &mut Vec<Vec<u8>>, random: &mut Random) {
     const OTHERS: [&[u8]; 6] = [b"", b"%", b"% 1", b"1", b"-32767", b"\r"];
-    let removed = if random.one_in(2) {
+    let line = if random.one_in(2) {
         lines.remove(random.below(lines.len()))
     } else {
         random.pick(&OTHERS).to_vec()
     };
     for _ in 0..random.below(3) {
-        lines.insert(random.below(lines.len() + 1), removed.clone());
+        lines.insert(random.below(lines.len() + 1), line.clone());
     }
 }
 

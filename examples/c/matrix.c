@@ -16,7 +16,7 @@ static void print_rows(const int16_t *coefficients, size_t n)
 
 static int read_file(const char *name)
 {
-    static uint8_t text[1 << 20]; /* comments may make a text as long as one likes; this program takes no longer one */
+    static uint8_t text[1 << 20]; /* comments may make a text longer still, which is then not read */
     int16_t coefficients[BALLAST_MATRIX_PLACES];
     FILE *file = fopen(name, "rb");
     if (file == NULL) {

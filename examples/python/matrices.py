@@ -28,14 +28,18 @@ COMMENTS = ["", "levers in centimetres", "two lines:\n%% 8 8", "\r"]
 # ---------------------------------------------------------------- the library, through the C example
 
 
+def output(words, given=b""):
+    return subprocess.run(words, input=given, stdout=subprocess.PIPE, check=True).stdout
+
+
 def library_text(program, matrix):
     words = [str(figure) for figure in matrix.flatten().tolist()]
-    return subprocess.run([program, "--write", str(len(matrix)), *words], stdout=subprocess.PIPE, check=True).stdout
+    return output([program, "--write", str(len(matrix)), *words])
 
 
 def library_rows(program, text):
     """What the program prints for a text: the coefficients, a row a line, or the refusal."""
-    return subprocess.run([program, "/dev/stdin"], input=text, stdout=subprocess.PIPE, check=True).stdout.decode()
+    return output([program, "/dev/stdin"], text).decode()
 
 
 def rows(matrix):
@@ -99,14 +103,15 @@ def check_both_ways(program, matrix, comments):
 def refused_forms():
     """What SciPy writes otherwise: in words, its text, and the refusal due."""
     any_matrix, symmetric = numpy.array([[1, -2], [3, 4]]), numpy.array([[1, 3], [3, 4]])
+    sparse = scipy.sparse.coo_matrix(any_matrix)
     yield "a symmetric matrix, symmetry not given", scipy_text(symmetric), 11
     yield "one tank, symmetry not given", scipy_text(numpy.array([[5]])), 11
     yield "a skew-symmetric matrix, symmetry not given", scipy_text(numpy.array([[0, 3], [-3, 0]])), 11
     yield "figures with a point", scipy_text(any_matrix.astype(float), symmetry="general"), 11
     yield "complex figures", scipy_text(any_matrix * 1j, symmetry="general"), 11
     yield "an unsigned type, field not given", scipy_text(symmetric.astype("uint16"), symmetry="general"), 11
-    yield "a sparse matrix", scipy_text(scipy.sparse.coo_matrix(any_matrix), symmetry="general", field="integer"), 11
-    yield "a pattern", scipy_text(scipy.sparse.coo_matrix(any_matrix), symmetry="general", field="pattern"), 11
+    yield "a sparse matrix", scipy_text(sparse, symmetry="general", field="integer"), 11
+    yield "a pattern", scipy_text(sparse, symmetry="general", field="pattern"), 11
     yield "two rows, three columns", general(numpy.array([[1, 2, 3], [4, 5, 6]]), ""), 11
     yield "nine tanks", general(numpy.eye(9, dtype=int), ""), 11
     for figure in (LIMIT + 1, -LIMIT - 1, 99_999, 100_000, 10 ** 18):
@@ -130,8 +135,8 @@ def main(program):
     found += check_refused(program)
     for message in found:
         print(message)
-    count = len(edges) + len(every)
-    print(f"scipy: {count} matrices written and read both ways with SciPy {scipy.__version__}, {len(found)} differences")
+    count, version = len(edges) + len(every), scipy.__version__
+    print(f"scipy: {count} matrices written and read both ways with SciPy {version}, {len(found)} differences")
     return 1 if found else 0
 
 

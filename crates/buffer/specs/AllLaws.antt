@@ -52,6 +52,11 @@ module _ {X : Type 0} (p : X → Bool) where
   all-at d e (x ∷ l) h zero = and-true (p x) (all p l) h .0
   all-at d e (x ∷ l) h (suc i) = all-at d e l (and-true (p x) (all p l) h .1) i
 
+  pub all-from : (d : X) (l : List X) → ((i : ℕ) → p (getD l i d) ≡ true) → all p l ≡ true
+  unfolding all
+  all-from d [] h = refl
+  all-from d (x ∷ l) h = rw (h 0) (all-from d l (λ i. h (suc i)))
+
   -- where not every element passes, there is a place of one that does not
   pub record Failing (d : X) (l : List X) : Type 0 where
     pub place : ℕ

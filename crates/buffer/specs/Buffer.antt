@@ -1,6 +1,6 @@
 -- Definitions only.
--- A list laid over the front of a buffer, or over it from a place on; what a writer asks and promises; lists one after another; a test of every element; what stands at a
--- list's front.
+-- A list laid over the front of a buffer, or over it from a place on; what a writer asks and promises; lists one after another; a test of every element;
+-- what stands at a list's front.
 use Prim.Native.Nat.{ℕ, zero, suc, _+_, _≤_}
 use lib.Dec.{eqb}
 use lib.ListN.{length, take, drop}

@@ -1,6 +1,6 @@
 -- What stands at a list's front: how many elements pass a test, and whether it is a given list; of lists put together, and the loops that find out.
 -- Assumes nothing.
-use Prim.Native.Nat.{ℕ, suc, _+_, _≤_, _<_}
+use Prim.Native.Nat.{ℕ, zero, suc, _+_, _≤_, _<_}
 use borrow.Author.Tests.{eqb-true, eq-eqb}
 use lib.Dec.{eqb}
 use lib.ListN.{length, getD, take, drop, drop-of-length-le}
@@ -8,6 +8,7 @@ use lib.Seq.{drop-cons}
 use mathlib.Core.Bool.{Bool, true, false, _&&_, false≢true, and-assoc}
 use mathlib.Core.List.{List, [], _∷_, _++_}
 use mathlib.Core.Path.{_≡_, refl, sym, ap, _∙_}
+use native.Mathlib.Nat.{le-of-suc-le-suc}
 use native.Mathlib.Numerals.{add-one}
 use native.Mathlib.Omega.{arith}
 use Rattle.buffer.specs.AllLaws.{and-true}
@@ -53,6 +54,17 @@ module _ {X : Type 0} (p : X → Bool) where
   -- and then one that does not
   pub leading-stops : (a : List X) (x : X) (b : List X) → all p a ≡ true → p x ≡ false → leading p (a ++ (x ∷ b)) ≡ length a
   leading-stops a x b e g = leading-append a (x ∷ b) e ∙ omega (arith, leading-no x b g)
+
+  -- of the first m alone, where they are enough
+  pub leading-taken : (m : ℕ) (l : List X) → leading p l ≤ m → leading p (take m l) ≡ leading p l
+  unfolding leading
+  leading-taken zero l h = omega arith
+  leading-taken (suc m) [] h = refl
+  leading-taken (suc m) (x ∷ l) h = go (p x) refl (leading-taken m l)
+    where
+      go : (b : Bool) → p x ≡ b → (leading p l ≤ m → leading p (take m l) ≡ leading p l) → leading p (x ∷ take m l) ≡ leading p (x ∷ l)
+      go true e i = rw e (ap suc (i (le-of-suc-le-suc (rw e at h))))
+      go false e i = rw e
 
   -- the loop that counts: k have passed, and what passes behind them makes up the whole
   pub record Counting (l : List X) (k : ℕ) : Type 0 where

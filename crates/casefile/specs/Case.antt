@@ -51,14 +51,14 @@ abbrev pub trialCount : ℕ → ℕ → ℕ
 trialCount k n = whereTrialGiven k n 0
 
 -- a figure for each tank of each row
-abbrev pub squareCount : {X : Type 0} → ℕ → List X → Bool
-squareCount n l = eqb (length l) (n * n)
+abbrev pub squareCounted : {X : Type 0} → ℕ → List X → Bool
+squareCounted n l = eqb (length l) (n * n)
 
 -- "n × n for the first two, n for the others, none for the trial where K is above 0"
 unfoldable pub counted : Case → Bool
 counted c =
-    squareCount (c .n) (c .rows .A)
-    && (squareCount (c .n) (c .rows .E)
+    squareCounted (c .n) (c .rows .A)
+    && (squareCounted (c .n) (c .rows .E)
     && (eqb (length (c .rows .b)) (c .n)
     && (eqb (length (c .rows .f)) (c .n)
     && eqb (length (c .Y)) (trialCount (c .rounds) (c .n)))))

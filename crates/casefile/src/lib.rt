@@ -1,9 +1,9 @@
-// A case in arrays, as the round trip returns it; whether n, e and K, a list of coefficients and its count are within their limits; and the tags, lengths and places of a case's fields in
-// bytes, with how many figures the trial has.
+// A case in arrays, as the round trip returns it; whether n, e and K are within their limits, and whether a list of coefficients has the count due and is
+// within them; and the tags, lengths and places of a case's fields in bytes, with how many figures the trial has.
 ghost use Prim.Native.Nat.{_≤_};
 ghost use mathlib.Core.Path.{_≡_};
 ghost use Rattle.limits.specs.Limits.{mostTanks};
-ghost use Rattle.casefile.specs.Case.{tanksFine, headFine, squareCount, coefficientsFine};
+ghost use Rattle.casefile.specs.Case.{tanksFine, headFine, squareCounted, coefficientsFine};
 ghost use Rattle.casefile.specs.Layout.{RowPlaced, TailPlaced};
 use bigendian::SIZE_16;
 use bigendian::SIZE_32;
@@ -85,7 +85,7 @@ pub fn head_fine(n: usize, exponent: usize, rounds: usize) -> bool
 // Whether a list has a coefficient for each of n tanks in each of n rows.
 pub fn coefficients_counted(n: usize, coefficients: &[i16]) -> bool
     requires { ⌜ n ≤ mostTanks ⌝ }
-    ensures { λ r. ⌜ r ≡ squareCount n (now (coefficients .entry)) ⌝ }
+    ensures { λ r. ⌜ r ≡ squareCounted n (now (coefficients .entry)) ⌝ }
 {
     coefficients.len() == n * n
 }

@@ -3,22 +3,23 @@
 use Prim.Native.Nat.{ℕ, zero, suc, _+_, _*_, _-_, _/_, _%_, _^_, _≤_, _<_}
 use borrow.Author.Tests.{le-leb, leb-true}
 use lib.Dec.{lit≤, leb}
-use lib.ListN.{length, getD, take, replicate, length-append, length-take, length-replicate}
-use lib.Seq.{take-suc, take-at, getD-take}
-use mathlib.Core.Bool.{Bool, true, false}
+use lib.ListN.{length, getD, take, replicate, length-take}
+use lib.Seq.{take-suc, take-at, take-take, getD-take, length-take-le}
+use mathlib.Core.Bool.{true, false}
 use mathlib.Core.List.{List, [], _∷_, _++_, append-nil, append-assoc}
 use mathlib.Core.Path.{_≡_, refl, sym, ap, _∙_}
 use native.Mathlib.Decide.{ℕ-discrete}
-use native.Mathlib.Nat.{pow-suc, pow-le-pow-right, lt-of-lt-of-le, le-of-suc-le-suc}
+use native.Mathlib.Nat.{pow-suc, pow-le-pow-right, lt-of-lt-of-le}
 use native.Mathlib.Numerals.{add-one}
 use native.Mathlib.Omega.{arith}
-use Rattle.buffer.specs.AllLaws.{and-true, all-append}
+use Rattle.buffer.specs.AllLaws.{and-true, all-append, all-replicate}
 use Rattle.buffer.specs.Buffer.{all, leading}
-use Rattle.buffer.specs.LeadingLaws.{leading-stops, Counting, count-begun, count-turn, count-stopped, count-ended}
+use Rattle.buffer.specs.LeadingLaws.{leading-le, leading-pass, leading-append, leading-taken, Counting, count-begun, count-turn, count-stopped, count-ended}
 use Rattle.decimal.specs.Decimal.{digit, decimalDigits}
 use Rattle.decimal.specs.DigitLaws.{digits-one, digits-more, by-tenths}
 use Rattle.decimal.specs.Reading.{valueFrom, value, isDigit, mostDigits, digitsIn, DigitsRead}
 use Rattle.decimal.specs.ReadingLaws.{value-snoc, value-digits}
+use Rattle.decimal.specs.declared.Digits.{Digits}
 
 -- ---- a digit
 
@@ -30,6 +31,18 @@ digit-most c e = leb-true c (digit 9) (and-true (leb (digit 0) c) (leb c (digit 
 
 is-digit : (d : ℕ) → d < 10 → isDigit (digit d) ≡ true
 is-digit d h = rw (le-leb (digit 0) (digit d) (omega arith), le-leb (digit d) (digit 9) (omega arith))
+
+-- ---- the digits at a text's front: how many, and that they are digits
+
+module _ (most : ℕ) (s : List ℕ) where
+  pub leading-digits : (leading isDigit (take most s) ≤ most) × (leading isDigit (take most s) ≤ length s)
+  leading-digits = omega (arith, leading-le isDigit (take most s), length-take most s)
+
+  pub length-digits-in : length (digitsIn most s) ≡ leading isDigit (take most s)
+  length-digits-in = length-take-le (leading isDigit (take most s)) s (leading-digits .1)
+
+  pub digits-in-digits : all isDigit (digitsIn most s) ≡ true
+  digits-in-digits = rw (take-take (leading isDigit (take most s)) most s (leading-digits .0)) at (leading-pass isDigit (take most s))
 
 -- ---- the loop: so many are read, and v is their number
 
@@ -61,13 +74,10 @@ module _ {most : ℕ} {s : List ℕ} where
 
     -- how it ends
     found : count ≡ leading isDigit (take most s) → DigitsRead most s (record { count = count; value = v })
-    found e = record { count = e; number = rw (← e) (r .number) }
+    found e = record { count = e ∙ sym (length-digits-in most s); number = rw (← e) (r .number) }
 
-    pub digits-all : most ≤ count → DigitsRead most s (record { count = count; value = v })
-    digits-all h = found (count-ended (r .counting) (rw (length-take most s) (omega arith)))
-
-    pub digits-end : length s ≤ count → DigitsRead most s (record { count = count; value = v })
-    digits-end h = found (count-ended (r .counting) (rw (length-take most s) (omega arith)))
+    pub digits-end : length (take most s) ≤ count → DigitsRead most s (record { count = count; value = v })
+    digits-end h = found (count-ended (r .counting) h)
 
     pub digits-stop : count < most → count < length s → isDigit (getD s count 0) ≡ false → DigitsRead most s (record { count = count; value = v })
     digits-stop h k e = found (count-stopped (r .counting) 0 (inside h k) (rw (getD-take most s count 0 h) e))
@@ -81,44 +91,31 @@ all-digits =
     (λ n h. rw (digits-one n h, is-digit n h))
     (λ n h i. rw (digits-more n h) (all-append isDigit (decimalDigits (n / 10)) (digit (n % 10) ∷ []) i (rw (is-digit (n % 10) (omega arith)))))
 
--- a row of digits, and then something else or the end of those that are looked at
-leading-taken : (p : ℕ → Bool) (m : ℕ) (l : List ℕ) → leading p l ≤ m → leading p (take m l) ≡ leading p l
-unfolding leading
-leading-taken p zero l h = omega arith
-leading-taken p (suc m) [] h = refl
-leading-taken p (suc m) (x ∷ l) h = go (p x) refl (leading-taken p m l)
-  where
-    go : (b : Bool) → p x ≡ b → (leading p l ≤ m → leading p (take m l) ≡ leading p l) → leading p (x ∷ take m l) ≡ leading p (x ∷ l)
-    go true e i = rw (e) (ap suc (i (le-of-suc-le-suc (rw e at h))))
-    go false e i = rw e
+-- digits, and then something else or the end
+module _ (most : ℕ) (a rest : List ℕ) (digits : all isDigit a ≡ true) (few : length a ≤ most) (other : leading isDigit rest ≡ 0) where
+  digits-counted : leading isDigit (take most (a ++ rest)) ≡ length a
+  digits-counted =
+      let e : leading isDigit (a ++ rest) ≡ length a = leading-append isDigit a rest digits ∙ omega arith in
+      leading-taken isDigit most (a ++ rest) (omega arith) ∙ e
 
-module _ (most : ℕ) (a : List ℕ) (c : ℕ) (rest : List ℕ) (digits : all isDigit a ≡ true) (few : length a ≤ most) (other : isDigit c ≡ false) where
-  pub row-counted : leading isDigit (take most (a ++ (c ∷ rest))) ≡ length a
-  row-counted =
-      let e = leading-stops isDigit a c rest digits other in
-      leading-taken isDigit most (a ++ (c ∷ rest)) (omega arith) ∙ e
-
-  pub row-read : digitsIn most (a ++ (c ∷ rest)) ≡ a
-  row-read = rw row-counted (take-at a (c ∷ rest) (length a) refl)
+  pub digits-taken : digitsIn most (a ++ rest) ≡ a
+  digits-taken = rw digits-counted (take-at a rest (length a) refl)
 
 -- leading zeros count for nothing
 pub value-zeros : (z : ℕ) (s : List ℕ) → value (replicate z (digit 0) ++ s) ≡ value s
 value-zeros zero s = refl
 value-zeros (suc z) s = value-zeros z s
 
-pub all-zeros : (z : ℕ) → all isDigit (replicate z (digit 0)) ≡ true
-unfolding all
-all-zeros zero = refl
-all-zeros (suc z) = all-zeros z
+pub zeros-digits : (z n : ℕ) → all isDigit (replicate z (digit 0) ++ decimalDigits n) ≡ true
+zeros-digits z n = all-append isDigit (replicate z (digit 0)) (decimalDigits n) (all-replicate isDigit z (digit 0) refl) (all-digits n)
 
--- reading is the inverse of writing, with leading zeros or without
-pub digits-back : (most z n c : ℕ) (rest : List ℕ) → z + length (decimalDigits n) ≤ most → isDigit c ≡ false
-    → value (digitsIn most (replicate z (digit 0) ++ (decimalDigits n ++ (c ∷ rest)))) ≡ n
-digits-back most z n c rest few other =
-    let a = replicate z (digit 0) ++ decimalDigits n in
-    let l : length a ≤ most = rw (length-append, length-replicate) few in
-    rw (← (append-assoc (replicate z (digit 0)) (decimalDigits n) (c ∷ rest)), row-read most a c rest (all-append isDigit (replicate z (digit 0)) (decimalDigits n) (all-zeros z) (all-digits n)) l other)
-    (value-zeros z (decimalDigits n) ∙ value-digits n)
+-- what `read_digits` gives of a number that was written is its digits' count and the number, with leading zeros or without
+pub digits-back : (most z n : ℕ) (rest : List ℕ) {r : Digits} → length (replicate z (digit 0) ++ decimalDigits n) ≤ most → leading isDigit rest ≡ 0
+    → DigitsRead most ((replicate z (digit 0) ++ decimalDigits n) ++ rest) r
+    → (r .count ≡ length (replicate z (digit 0) ++ decimalDigits n)) × (r .value ≡ n)
+digits-back most z n rest few other w =
+    let e = digits-taken most (replicate z (digit 0) ++ decimalDigits n) rest (zeros-digits z n) few other in
+    (w .count ∙ ap length e, w .number ∙ ap value e ∙ value-zeros z (decimalDigits n) ∙ value-digits n)
 
 -- ---- every row of digits is zeros and then the digits of its number
 

@@ -19,24 +19,7 @@ valueFrom a (c ∷ s) = valueFrom (a * 10 + (c - 48)) s
 abbrev pub value : List ℕ → ℕ
 value s = valueFrom 0 s
 
--- whether a byte is a digit
-abbrev pub isDigit : ℕ → Bool
-isDigit c = leb (digit 0) c && leb c (digit 9)
-
--- the digits at a text's front, at most so many of them
-abbrev pub digitsIn : ℕ → List ℕ → List ℕ
-digitsIn most s = take (leading isDigit (take most s)) s
-
--- so many fit 64 bits, whatever they are
-abbrev pub mostDigits : ℕ
-mostDigits = 19
-
--- what is read of them: how many there are, and their number
-pub record DigitsRead (most : ℕ) (s : List ℕ) (r : Digits) : Type 0 where
-  pub count : r .count ≡ leading isDigit (take most s)
-  pub number : r .value ≡ value (digitsIn most s)
-
--- the number of e digits after a point too, in parts of 10^e: the digits before the point, and the last e, which follow it; with e = 0 all are digits
+-- the same for e digits after a point, in parts of 10^e: the digits before the point, and the last e, which follow it; with e = 0 all are digits
 unfoldable pub scaledValue : ℕ → List ℕ → ℕ
 scaledValue zero s = value s
 scaledValue (suc k) s = value (take (length s - suc (suc k)) s) * 10 ^ suc k + value (drop (length s - suc k) s)
@@ -55,3 +38,20 @@ readSigned s = readBy value s
 
 abbrev pub readFixedPoint : ℕ → List ℕ → ℤ
 readFixedPoint e s = readBy (scaledValue e) s
+
+-- whether a byte is a digit
+abbrev pub isDigit : ℕ → Bool
+isDigit c = leb (digit 0) c && leb c (digit 9)
+
+-- the digits at a text's front, at most so many of them
+abbrev pub digitsIn : ℕ → List ℕ → List ℕ
+digitsIn most s = take (leading isDigit (take most s)) s
+
+-- so many fit 64 bits, whatever they are
+abbrev pub mostDigits : ℕ
+mostDigits = 19
+
+-- what is read of them: how many there are, and their number
+pub record DigitsRead (most : ℕ) (s : List ℕ) (r : Digits) : Type 0 where
+  pub count : r .count ≡ length (digitsIn most s)
+  pub number : r .value ≡ value (digitsIn most s)

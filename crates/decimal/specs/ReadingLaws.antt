@@ -61,7 +61,7 @@ scaled-value-is (suc k) n =
 
 -- ---- the sign
 
-no-minus : (body : List ℕ) → digit 0 ≤ getD body 0 0 → negative body ≡ false
+pub no-minus : (body : List ℕ) → digit 0 ≤ getD body 0 0 → negative body ≡ false
 no-minus body h = ne-eqb (getD body 0 0) 45 (λ e. absurd (omega arith))
 
 read-by-is : (m : List ℕ → ℕ) (z : ℤ) (body : List ℕ) → digit 0 ≤ getD body 0 0 → m body ≡ natAbs z → readBy m (minusSign z ++ body) ≡ z

@@ -1,5 +1,5 @@
 // Words and decimal numbers as bytes in a buffer. Each writer writes from the place `at` on, changes nothing else, and returns the place
-// after what it wrote. And digits read back.
+// after what it wrote. `read_digits` reads digits back.
 ghost use Prim.Native.Nat.{_≤_};
 ghost use lib.ListN.{length};
 ghost use mathlib.Core.Path.{_≡_};
@@ -118,7 +118,7 @@ fn is_digit(byte: u8) -> bool
     (b'0' <= byte) & (byte <= b'9')
 }
 
-// The digits at the front of the text, at most so many of them, which 64 bits hold.
+// Reads the digits at the front of the text, at most `most` of them; 64 bits hold any number of 19.
 pub fn read_digits(text: &[u8], most: usize) -> Digits
     requires { ⌜ most ≤ mostDigits ⌝ }
     ensures { λ r. ⌜ DigitsRead most (now (text .entry)) r ⌝ }

@@ -3,8 +3,8 @@ use Prim.Native.Nat.{ℕ, suc, _+_, _-_, _≤_, _<_}
 use borrow.Author.Tests.{eq-eqb, ne-eqb, eqb-true, eqb-false, leb-true}
 use lib.Dec.{leb, eqb}
 use lib.IntN.{ℤ, pos, negℤ}
-use lib.ListN.{length, take, drop, set, length-append, length-take, length-drop, length-set}
-use lib.Seq.{drop-drop, length-take-le, take-suc-set, append-snoc}
+use lib.ListN.{length, take, drop, set, length-append, length-drop, length-set}
+use lib.Seq.{drop-drop, take-suc-set, append-snoc}
 use mathlib.Core.Bool.{Bool, true, false, false≢true, _&&_, cond}
 use mathlib.Core.List.{List, [], _∷_, _++_, append-nil}
 use mathlib.Core.Path.{_≡_, refl, sym, ap, _∙_}
@@ -13,10 +13,11 @@ use native.Mathlib.Numerals.{add-one}
 use native.Mathlib.Omega.{arith}
 use Rattle.limits.specs.Limits.{coefficientLimit}
 use Rattle.buffer.specs.AllLaws.{and-true}
-use Rattle.buffer.specs.Buffer.{leading, beginsWith}
-use Rattle.buffer.specs.LeadingLaws.{leading-le, begins-front}
+use Rattle.buffer.specs.Buffer.{beginsWith}
+use Rattle.buffer.specs.LeadingLaws.{begins-front}
 use Rattle.decimal.specs.Decimal.{lineFeed}
-use Rattle.decimal.specs.Reading.{value, negative, isDigit, DigitsRead}
+use Rattle.decimal.specs.DigitsReadLaws.{leading-digits, length-digits-in}
+use Rattle.decimal.specs.Reading.{value, negative, DigitsRead}
 use Rattle.decimal.specs.declared.Digits.{Digits}
 use Rattle.matrixfile.specs.Read.{mostEntryDigits, afterMinus, entryDigits, entryFine, entryOf, afterEntry, entriesFine, entriesOf}
 use Rattle.matrix_reader.specs.Parts.{EntryRead, EntriesRead}
@@ -48,10 +49,7 @@ module _ (s : List ℕ) {k : ℕ} (sign : k ≡ cond (negative s) 1 0) where
   module _ {d : Digits} (read : DigitsRead mostEntryDigits (drop k s) d) where
     -- as many as are taken
     counted : d .count ≡ length (entryDigits s)
-    counted =
-        let t = afterMinus s in
-        let few : leading isDigit (take mostEntryDigits t) ≤ length t = omega (arith, leading-le isDigit (take mostEntryDigits t), length-take mostEntryDigits t) in
-        rw after-sign at (read .count) ∙ sym (length-take-le (leading isDigit (take mostEntryDigits t)) t few)
+    counted = rw after-sign at (read .count)
 
     number : d .value ≡ value (entryDigits s)
     number = rw after-sign at (read .number)
@@ -59,7 +57,7 @@ module _ (s : List ℕ) {k : ℕ} (sign : k ≡ cond (negative s) 1 0) where
     pub digits-room : k + d .count ≤ length s
     digits-room =
         let t = drop k s in
-        omega (arith, read .count, leading-le isDigit (take mostEntryDigits t), length-take mostEntryDigits t, length-drop k s, sign-room)
+        omega (arith, read .count, length-digits-in mostEntryDigits t, leading-digits mostEntryDigits t, length-drop k s, sign-room)
 
     pub entry-tested : {ended : Bool} → ended ≡ beginsWith lineFeed (drop (k + d .count) s)
         → (leb 1 (d .count) && (leb (d .value) coefficientLimit && ended)) ≡ entryFine s

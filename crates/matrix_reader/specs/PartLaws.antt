@@ -8,41 +8,41 @@ use mathlib.Core.List.{List, [], _∷_}
 use mathlib.Core.Path.{_≡_, refl, sym, ap, _∙_}
 use native.Mathlib.Numerals.{add-one}
 use native.Mathlib.Omega.{arith}
-use Rattle.buffer.specs.AllLaws.{and-true}
 use Rattle.buffer.specs.Buffer.{beginsWith}
 use Rattle.buffer.specs.LeadingLaws.{begins-front}
 use Rattle.decimal.specs.Decimal.{lineFeed}
 use Rattle.casefile.specs.Case.{tanksFine}
 use Rattle.matrixfile.specs.Read.{afterComments, sizeOf, spacesIn, sizeFine, afterSize, atSize}
+use Rattle.matrixfile.specs.SizeLaws.{size-tests, size-some}
 use Rattle.matrixfile.specs.Text.{firstLine}
 use Rattle.matrix_reader.specs.Parts.{LeavesBehind, CommentsRead, SizeRead, HeaderRead}
 use Rattle.matrix_reader.specs.declared.Size.{Size}
 
 -- ---- comment lines: k bytes are passed, and what is left behind the rest of them is what is left behind all
 
-pub record Skipping (s : List ℕ) (inside : Bool) (k : ℕ) : Type 0 where
+pub record PassingComments (s : List ℕ) (inside : Bool) (k : ℕ) : Type 0 where
   pub within : k ≤ length s
   is : afterComments inside (drop k s) ≡ afterComments false s
 
-pub skip-begun : {s : List ℕ} → Skipping s false 0
-skip-begun = record { within = omega arith; is = refl }
+pub pass-begun : {s : List ℕ} → PassingComments s false 0
+pass-begun = record { within = omega arith; is = refl }
 
-module _ {s : List ℕ} {inside : Bool} {k : ℕ} (r : Skipping s inside k) where
-  pub skip-turn : {next : Bool} → k < length s → (inside || eqb (getD s k 0) 37) ≡ true → next ≡ not (eqb (getD s k 0) 10) → Skipping s next (k + 1)
+module _ {s : List ℕ} {inside : Bool} {k : ℕ} (r : PassingComments s inside k) where
+  pub pass-turn : {next : Bool} → k < length s → (inside || eqb (getD s k 0) 37) ≡ true → next ≡ not (eqb (getD s k 0) 10) → PassingComments s next (k + 1)
   unfolding afterComments
-  skip-turn {next} h e g =
+  pass-turn {next} h e g =
       let a : afterComments inside (drop k s) ≡ afterComments next (drop (k + 1) s) = rw (drop-cons s k 0 h, e, g, add-one k) in
       record { within = omega arith; is = sym a ∙ r .is }
 
-  pub skip-stopped : k < length s → (inside || eqb (getD s k 0) 37) ≡ false → CommentsRead s k
+  pub pass-stopped : k < length s → (inside || eqb (getD s k 0) 37) ≡ false → CommentsRead s k
   unfolding afterComments
-  skip-stopped h e =
+  pass-stopped h e =
       let a : afterComments inside (drop k s) ≡ drop k s = rw (drop-cons s k 0 h, e) in
       record { inside = r .within; is = sym a ∙ r .is }
 
-  pub skip-ended : length s ≤ k → CommentsRead s k
+  pub pass-ended : length s ≤ k → CommentsRead s k
   unfolding afterComments
-  skip-ended h =
+  pass-ended h =
       let d : drop k s ≡ [] = drop-of-length-le s h in
       record { inside = r .within; is = d ∙ rw d at (r .is) }
 
@@ -52,17 +52,15 @@ module _ {s : List ℕ} {inside : Bool} {k : ℕ} (r : Skipping s inside k) wher
 abbrev pub noSize : Size
 noSize = record { fine = false; n = 0; len = 0 }
 
--- where the test fails nothing more is asked
-size-not : {P : Type 0} → false ≡ true → P
-size-not e = absurd (false≢true e)
-
 pub size-refused : (s : List ℕ) → sizeFine s ≡ false → SizeRead s noSize
-size-refused s e = record { fine = sym e; tanks = λ q. size-not q; behind = λ q. size-not q }
+size-refused s e = record { fine = sym e; tanks = λ q. absurd (false≢true q); behind = λ q. absurd (false≢true q) }
 
 pub size-missing : (s : List ℕ) → length s ≡ 0 → SizeRead s noSize
-unfolding sizeFine
-size-missing [] e = size-refused [] refl
-size-missing (c ∷ s) e = absurd (omega arith)
+size-missing s e = size-refused s (by (sizeFine s) refl)
+  where
+    by : (b : Bool) → sizeFine s ≡ b → b ≡ false
+    by true q = absurd (omega (arith, size-some s q))
+    by false q = refl
 
 -- its tests one by one
 pub size-tested : (s : List ℕ) {n k : ℕ} {tanks ended : Bool} → n ≡ sizeOf s → k ≡ spacesIn s → tanks ≡ tanksFine n
@@ -71,15 +69,11 @@ unfolding sizeFine
 size-tested s a b c d = rw (c, d, a, b)
 
 module _ (s : List ℕ) (e : sizeFine s ≡ true) where
-  size-ended : beginsWith (getD s 0 0 ∷ lineFeed) (drop (1 + spacesIn s) s) ≡ true
-  unfolding sizeFine
-  size-ended = and-true (leb 1 (spacesIn s)) _ (and-true (tanksFine (sizeOf s)) _ e .1) .1
-
   pub size-room : 3 + spacesIn s ≤ length s
   size-room =
       omega (
         arith,
-        ap length (begins-front (getD s 0 0 ∷ lineFeed) (drop (1 + spacesIn s) s) size-ended),
+        ap length (begins-front (getD s 0 0 ∷ lineFeed) (drop (1 + spacesIn s) s) (size-tests s e .ended)),
         length-append (getD s 0 0 ∷ lineFeed) (drop 2 (drop (1 + spacesIn s) s)),
         length-drop (1 + spacesIn s) s,
       )
@@ -96,7 +90,7 @@ module _ (s : List ℕ) (e : sizeFine s ≡ true) where
 
 module _ (text : List ℕ) where
   pub header-refused : beginsWith firstLine text ≡ false → HeaderRead text noSize
-  header-refused e = record { fine = rw e; tanks = λ q. size-not q; behind = λ q. size-not q }
+  header-refused e = record { fine = rw e; tanks = λ q. absurd (false≢true q); behind = λ q. absurd (false≢true q) }
 
   module _ (e : beginsWith firstLine text ≡ true) where
     pub first-line-room : length firstLine ≤ length text
@@ -116,7 +110,7 @@ module _ (text : List ℕ) where
         same-fine = z .fine ∙ rw (size-place .is, e)
 
         pub header-size-refused : r .fine ≡ false → HeaderRead text r
-        header-size-refused q = record { fine = same-fine; tanks = λ p. size-not (sym q ∙ p); behind = λ p. size-not (sym q ∙ p) }
+        header-size-refused q = record { fine = same-fine; tanks = λ p. absurd (false≢true (sym q ∙ p)); behind = λ p. absurd (false≢true (sym q ∙ p)) }
 
         pub header-room : r .fine ≡ true → length firstLine + k + r .len ≤ length text
         header-room q = omega (arith, z .behind q .inside, length-drop (length firstLine + k) text, size-place .inside)

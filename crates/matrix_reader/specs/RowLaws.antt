@@ -34,11 +34,11 @@ module _ {n : ℕ} {columns out₀ : List ℤ} where
           few = omega arith;
           written =
               rw (add-one k, take-suc-set out k x inside, take-suc (transpose n columns) k (pos 0) (omega (arith, length-transpose n columns)), transpose-at n columns k h, r .written, e);
-          kept = rw (drop-set-lt (k + 1) out k x (omega arith)) (behind inside);
+          kept = rw (drop-set-lt (k + 1) out k x (omega arith)) behind;
         }
       where
-        behind : k < length out → drop (k + 1) out ≡ drop (k + 1) out₀
-        behind i = rw (← (drop-drop 1 k out), ← (drop-drop 1 k out₀), r .kept)
+        behind : drop (k + 1) out ≡ drop (k + 1) out₀
+        behind = rw (← (drop-drop 1 k out), ← (drop-drop 1 k out₀), r .kept)
 
     pub rows-ended : n * n ≤ k → out ≡ onto (transpose n columns) out₀
     rows-ended h =

@@ -1,7 +1,5 @@
 -- What header and entries, as they were read, make of the whole text. Assumes nothing.
-use Prim.Native.Nat.{ℕ, _*_}
-use borrow.Author.Tests.{leb-true}
-use lib.Dec.{leb}
+use Prim.Native.Nat.{ℕ, _*_, _≤_}
 use lib.IntN.{ℤ}
 use lib.ListN.{drop}
 use mathlib.Core.Bool.{Bool, true, false, _&&_}
@@ -12,9 +10,9 @@ use Rattle.buffer.specs.AllLaws.{and-true}
 use Rattle.buffer.specs.Buffer.{beginsWith}
 use Rattle.outcome.specs.declared.Refusal.the-variants.{WrongMatrixHeader, WrongMatrixEntry}
 use Rattle.outcome.specs.declared.Status.the-variants.{Accepted, Refused}
-use Rattle.casefile.specs.Case.{tanksFine}
 use Rattle.casefile.specs.RowsLaws.{square-fits}
 use Rattle.matrixfile.specs.Read.{sizeFine, atSize, tanksIn, atEntries, textStatus, coefficientsIn}
+use Rattle.matrixfile.specs.SizeLaws.{size-tests}
 use Rattle.matrixfile.specs.Text.{firstLine, transpose}
 use Rattle.matrixfile.specs.TextLaws.{transpose-front}
 use Rattle.matrix_reader.specs.Parts.{HeaderRead, EntriesRead, Square}
@@ -31,13 +29,10 @@ module _ (text : List ℕ) {r : Size} (h : HeaderRead text r) where
 
     -- n is within its limits
     pub square : Square (r .n) mostCoefficients
-    unfolding sizeFine
     square =
-        let s = and-true (beginsWith firstLine text) (sizeFine (atSize text)) passed .1 in
-        let t = rw (← (h .tanks q)) at (and-true (tanksFine (tanksIn text)) _ s .0) in
-        let l = and-true (leb 1 (r .n)) (leb (r .n) mostTanks) t in
-        let small = leb-true (r .n) mostTanks (l .1) in
-        record { least = leb-true 1 (r .n) (l .0); small = small; room = square-fits (r .n) small }
+        let tests = size-tests (atSize text) (and-true (beginsWith firstLine text) (sizeFine (atSize text)) passed .1) in
+        let small : r .n ≤ mostTanks = rw (h .tanks q) (tests .small) in
+        record { least = rw (h .tanks q) (tests .least); small = small; room = square-fits (r .n) small }
 
     module _ {fine : Bool} {columns : List ℤ} (e : EntriesRead (r .n * r .n) (drop (r .len) text) fine columns) where
       -- over the definition's names

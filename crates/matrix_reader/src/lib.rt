@@ -142,7 +142,7 @@ fn is_negative(text: &[u8]) -> bool
 }
 
 // How many bytes a sign has.
-fn sign_bytes(negative: bool) -> usize
+fn sign_length(negative: bool) -> usize
     ensures { λ r. ⌜ r ≡ cond negative 1 0 ⌝ }
 {
     if negative {
@@ -151,15 +151,15 @@ fn sign_bytes(negative: bool) -> usize
     0
 }
 
-// The number of a sign and a size within a coefficient's limits.
-fn signed(negative: bool, size: u64) -> i16
-    requires { ⌜ size ≤ coefficientLimit ⌝ }
-    ensures { λ r. ⌜ r ≡ cond negative (negℤ (pos size)) (pos size) ⌝ }
+// The coefficient of this magnitude, below zero where `negative` says so.
+fn with_sign(negative: bool, magnitude: u64) -> i16
+    requires { ⌜ magnitude ≤ coefficientLimit ⌝ }
+    ensures { λ r. ⌜ r ≡ cond negative (negℤ (pos magnitude)) (pos magnitude) ⌝ }
 {
     if negative {
-        return 0 - (size as i16);
+        return 0 - (magnitude as i16);
     }
-    size as i16
+    magnitude as i16
 }
 
 // An entry's line at the front.
@@ -167,13 +167,13 @@ fn read_entry(text: &[u8]) -> Entry
     ensures { λ r. ⌜ EntryRead (now (text .entry)) r ⌝ }
 {
     let minus = is_negative(text);
-    let sign = sign_bytes(minus);
+    let sign = sign_length(minus);
     let digits = decimal::read_digits(&text[sign..], matrixfile::MOST_ENTRY_DIGITS);
     let count = digits.count;
-    let size = digits.value;
+    let magnitude = digits.value;
     let end = sign + count;
     let ended = begins_with(&text[end..], b"\n");
-    if !((1 <= count) & ((size <= limits::COEFFICIENT_LIMIT) & ended)) {
+    if !((1 <= count) & ((magnitude <= limits::COEFFICIENT_LIMIT) & ended)) {
         return Entry {
             fine: false,
             value: 0,
@@ -182,12 +182,13 @@ fn read_entry(text: &[u8]) -> Entry
     }
     Entry {
         fine: true,
-        value: signed(minus, size),
+        value: with_sign(minus, magnitude),
         len: end + 1,
     }
 }
 
-// So many entries, one a line, and then the end of the text. They go over the front of columns, in the order of the text.
+// Whether the text is so many entries, one a line, and nothing behind them. They go over the front of columns, in the order of the text; where it is not,
+// some of them may.
 fn read_entries(text: &[u8], count: usize, columns: &mut [i16]) -> bool
     requires { ⌜ count ≤ length (now columns) ⌝ }
     ensures { λ r. ⌜ EntriesRead count (now (text .entry)) r (now (columns .exit)) ⌝ }
@@ -207,7 +208,7 @@ fn read_entries(text: &[u8], count: usize, columns: &mut [i16]) -> bool
     p == text.len()
 }
 
-// The entries of n columns, row after row over the front of out.
+// Writes the entries of n columns row after row over the front of out.
 fn write_rows(n: usize, columns: &[i16; MOST_COEFFICIENTS], out: &mut [i16])
     requires { ⌜ Square n (length (now out)) ⌝ }
     ensures { λ _. ⌜ now (out .exit) ≡ onto (transpose n (now (columns .entry))) (now (out .entry)) ⌝ }

@@ -63,9 +63,9 @@ fn write_text(n: usize, coefficients: &[i16], out: &mut [u8]) -> usize
     write_entries(n, coefficients, after_size, out)
 }
 
-// Writes a matrix of coefficients, given row after row, as a text over the front of out and returns its length; bytes beyond it stay. It refuses, and changes
-// no byte, with 1 a buffer shorter than the longest text, then with 6 an n outside its limits, then with 4 a list whose count is not n × n, then with 6 a coefficient
-// outside its limits.
+// Writes a matrix of coefficients, given row after row, as a text over the front of out and returns its length; bytes beyond it stay. It refuses, and
+// changes no byte, with 1 a buffer shorter than the longest text, then with 6 an n outside its limits, then with 4 a list whose count is not n * n, then
+// with 6 a coefficient outside its limits.
 pub fn write_matrix(n: usize, coefficients: &[i16], out: &mut [u8]) -> Outcome
     ensures { λ r. ⌜ callResult r (now (out .exit)) ≡ writeMatrix n (now (coefficients .entry)) (now (out .entry)) ⌝ }
 {

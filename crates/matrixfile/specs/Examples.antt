@@ -1,17 +1,19 @@
 -- Matrices written and texts read, by computation on the definitions. Nothing is exported. Assumes nothing.
-use Prim.Native.Nat.{ℕ}
+use Prim.Native.Nat.{ℕ, _≤_}
 use Prim.Native.String as string
+use borrow.Author.Tests.{le-leb}
 use lib.IntN.{ℤ, pos, negℤ}
 use lib.ListN.{length, replicate}
 use mathlib.Core.List.{List, [], _∷_, _++_}
 use mathlib.Core.Path.{_≡_, refl}
 use Rattle.limits.specs.Limits.{mostTanks, mostCoefficients, coefficientLimit}
 use Rattle.buffer.specs.Buffer.{all, leading, beginsWith}
-use Rattle.outcome.specs.Outcome.{statusNumber}
+use Rattle.outcome.specs.Outcome.{statusNumber, reportedOutcome}
+use Rattle.outcome.specs.declared.Outcome.the-variants.{Count}
 use Rattle.outcome.specs.declared.Status.the-variants.{Accepted}
 use Rattle.decimal.specs.Decimal.{ascii, digitsWithin, decimalDigits, signedDecimal}
 use Rattle.matrixfile.specs.Read.{afterComments, sizeFine, entryFine, entryOf, afterEntry, entriesFine, entriesOf, textStatus, coefficientsIn}
-use Rattle.matrixfile.specs.Text.{firstLine, entryLine, transpose, matrixText, longestText, matrixStatus}
+use Rattle.matrixfile.specs.Text.{firstLine, entryLine, transpose, matrixText, longestText, matrixStatus, writeMatrix}
 
 -- two tanks, rows (1, −2) and (30, 0)
 two-tanks : matrixText 2 (pos 1 ∷ negℤ (pos 2) ∷ pos 30 ∷ pos 0 ∷ [])
@@ -23,13 +25,17 @@ two-tanks = refl
 abbrev longest : List ℤ
 longest = replicate mostCoefficients (negℤ (pos coefficientLimit))
 
-attained : length (matrixText mostTanks longest) ≡ longestText
+longest-length : length (matrixText mostTanks longest) ≡ longestText
 unfolding digitsWithin decimalDigits signedDecimal entryLine transpose matrixText
-attained = refl
+longest-length = refl
 
 longest-accepted : matrixStatus mostTanks longest ≡ Accepted
 unfolding all matrixStatus
 longest-accepted = refl
+
+attained : (out : List ℕ) → longestText ≤ length out → writeMatrix mostTanks longest out .outcome ≡ reportedOutcome (Count longestText)
+unfolding writeMatrix
+attained out h = rw (le-leb longestText (length out) h, longest-accepted, longest-length)
 
 -- ---- what stands behind the first line, and the number that reading it gets: 0 where it is read
 

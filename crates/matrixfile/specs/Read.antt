@@ -19,15 +19,18 @@ use Rattle.matrixfile.specs.Text.{firstLine, transpose}
 
 -- ---- "comment lines starting with a percent sign"
 
+abbrev pub noLineFeed : ℕ → Bool
+noLineFeed c = not (eqb c 10)
+
 -- What is left behind them. The flag says that the front is inside a comment line, which goes on to its line feed; a comment line that has none leaves
 -- nothing.
 unfoldable pub afterComments : Bool → List ℕ → List ℕ
 afterComments inside [] = []
-afterComments inside (c ∷ s) = cond (inside || eqb c 37) (afterComments (not (eqb c 10)) s) (c ∷ s)
+afterComments inside (c ∷ s) = cond (inside || eqb c 37) (afterComments (noLineFeed c) s) (c ∷ s)
 
 -- ---- "a size line with rows and columns, one digit each with spaces between"
 
--- the number of rows by its digit, and how many spaces follow it
+-- the number of rows by its digit, and how many spaces follow it; a byte below the digits, or none, gives 0 rows, and one above 8 too many
 abbrev pub sizeOf : List ℕ → ℕ
 sizeOf s = getD s 0 0 - digit 0
 
@@ -91,7 +94,7 @@ tanksIn text = sizeOf (atSize text)
 abbrev pub atEntries : List ℕ → List ℕ
 atEntries text = afterSize (atSize text)
 
--- "refuses with 11 a wrong first line, or a size line that is missing, not so formed or ended, or not n and n ..; and then with 12 the first entry that is
+-- "refuses with 11 a wrong first line, or a size line that is missing, not so formed or ended, or not n and n .., and then with 12 the first entry that is
 -- malformed, out of limits or missing, or anything after the last"
 unfoldable pub textStatus : List ℕ → Status
 textStatus text =

@@ -11,7 +11,7 @@ use Rattle.outcome.specs.declared.Refusal.the-variants.{WrongLength, OutsideLim
 use Rattle.outcome.specs.declared.Status.{Status}
 use Rattle.integers.specs.Tables.{table}
 use Rattle.decimal.specs.Decimal.{ascii, lineFeed, digit, signedDecimal}
-use Rattle.casefile.specs.Case.{tanksFine, squareCount, coefficientsFine}
+use Rattle.casefile.specs.Case.{tanksFine, squareCounted, coefficientsFine}
 
 -- "Read and write the array form, `%%MatrixMarket matrix array integer general`", "A line feed ends every line"
 abbrev pub firstLine : List ℕ
@@ -50,7 +50,7 @@ longestText = 496
 unfoldable pub matrixStatus : ℕ → List ℤ → Status
 matrixStatus n A =
     first (check (tanksFine n) OutsideLimits)
-    (first (check (squareCount n A) WrongLength) (check (coefficientsFine A) OutsideLimits))
+    (first (check (squareCounted n A) WrongLength) (check (coefficientsFine A) OutsideLimits))
 
 -- "In writing a text buffer under 496 bytes .. is refusal 1"; "Writing returns the text's length and leaves the bytes beyond it"
 unfoldable pub writeMatrix : ℕ → List ℤ → List ℕ → CallResult

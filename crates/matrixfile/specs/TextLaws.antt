@@ -13,6 +13,7 @@ use Rattle.limits.specs.Limits.{mostTanks, coefficientLimit}
 use Rattle.buffer.specs.AllLaws.{and-left, and-right, all-at}
 use Rattle.buffer.specs.Buffer.{joined}
 use Rattle.buffer.specs.RunLaws.{length-run-le, joined-run}
+use Rattle.integers.specs.Tables.{Within}
 use Rattle.integers.specs.TableLaws.{length-table, getD-table, all-table, row-inside}
 use Rattle.outcome.specs.CallResult.{checkRoom}
 use Rattle.outcome.specs.CallResultLaws.{WrittenCount, written-count}
@@ -71,6 +72,12 @@ transpose-twice n l e =
     same k h =
         transpose-at n (transpose n l) k h ∙ transpose-at n l (transposedPlace n k) (place-below n k h) ∙ rw (place-twice n k h)
 
+-- limits are kept
+pub transpose-within : (n b : ℕ) (l : List ℤ) → Within b l → Within b (transpose n l)
+unfolding transpose
+transpose-within n b l h =
+    all-table (λ z. natAbs z ≤ b) (pos 0) (omega arith) (n * n) (λ k. getD l (transposedPlace n k) (pos 0)) (λ k. h (transposedPlace n k))
+
 -- no place past n × n is read
 pub transpose-front : (n : ℕ) (l : List ℤ) → transpose n (take (n * n) l) ≡ transpose n l
 transpose-front n l =
@@ -99,17 +106,14 @@ module _ (n : ℕ) (A : List ℤ) where
 
 -- ---- lengths
 
-pub length-entry-line : (z : ℤ) → natAbs z ≤ coefficientLimit → length (entryLine z) ≤ longestEntryLine
+length-entry-line : (z : ℤ) → natAbs z ≤ coefficientLimit → length (entryLine z) ≤ longestEntryLine
 unfolding entryLine
 length-entry-line z h = omega (arith, length-append (signedDecimal z) lineFeed, length-signed 4 z (lt-of-le-of-lt h (lit< tt)))
 
 module _ (n : ℕ) (A : List ℤ) (f : MatrixFine n A) where
-  -- at every place, past the end too
-  pub entry-within : (k : ℕ) → natAbs (getD (transpose n A) k (pos 0)) ≤ coefficientLimit
-  unfolding transpose
+  pub entry-within : Within coefficientLimit (transpose n A)
   entry-within =
-      all-table (λ z. natAbs z ≤ coefficientLimit) (pos 0) (omega arith) (n * n) (λ k. getD A (transposedPlace n k) (pos 0))
-      (λ k. leb-true _ _ (all-at (withinLimit coefficientLimit) (pos 0) refl A (f .entries .fine) (transposedPlace n k)))
+      transpose-within n coefficientLimit A (λ k. leb-true _ _ (all-at (withinLimit coefficientLimit) (pos 0) refl A (f .entries .fine) k))
 
   pub entry-line-fits : (k : ℕ) → length (entryLine (getD (transpose n A) k (pos 0))) ≤ longestEntryLine
   entry-line-fits k = length-entry-line (getD (transpose n A) k (pos 0)) (entry-within k)

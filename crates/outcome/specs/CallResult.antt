@@ -1,5 +1,5 @@
 -- Definitions only.
--- What a call that writes into a lent list answers, and what the list then holds; of bytes it is called a buffer.
+-- What a call that writes into a lent list, its buffer, answers, and what the list then holds.
 use Prim.Native.Nat.{ℕ}
 use lib.Dec.{leb}
 use lib.ListN.{length}
@@ -25,8 +25,8 @@ CallResult = LentResult ℕ
 abbrev pub callResult : {X : Type 0} → Outcome → List X → LentResult X
 callResult outcome buffer = record { outcome = reportedOutcome outcome; buffer = buffer }
 
--- elements laid over a list's front: their number, by the rule of the call, and the places beyond them as they were; "Any refusal .. returns its number and
--- changes no byte"
+-- elements laid over a list's front, with the count that the call returns by its rule, and the places beyond them as they were; "Any refusal .. returns its
+-- number and changes no byte"
 abbrev pub leaveIfAccepted : {X : Type 0} → Status → (List X → ℕ) → List X → List X → LentResult X
 leaveIfAccepted Accepted count elements out = callResult (Count (count elements)) (onto elements out)
 leaveIfAccepted (Refused r) count elements out = callResult (RefusedBy r) out

@@ -16,16 +16,16 @@ use Rattle.outcome.specs.declared.Refusal.the-variants.{BufferTooShort}
 use Rattle.outcome.specs.declared.Status.{Status}
 use Rattle.outcome.specs.declared.Status.the-variants.{Accepted, Refused}
 
--- a count comes only where nothing is refused, and is the number that belongs to the elements at the list's front
-pub record LeftCount {X : Type 0} (t : Status) (count : List X → ℕ) (elements out : List X) (m : ℕ) : Type 0 where
+-- a count comes only where nothing is refused, and is the one that belongs to the elements at the list's front
+pub record LentCount {X : Type 0} (t : Status) (count : List X → ℕ) (elements out : List X) (m : ℕ) : Type 0 where
   pub accepted : t ≡ Accepted
   pub number : m ≡ count elements
   pub buffer : leaveIfAccepted t count elements out .buffer ≡ onto elements out
 
-pub left-count : {X : Type 0} (t : Status) (count : List X → ℕ) (elements out : List X) (m : ℕ) → leaveIfAccepted t count elements out .outcome ≡ reportedOutcome (Count m)
-    → LeftCount t count elements out m
-left-count Accepted count elements out m e = record { accepted = refl; number = sym (ap (λ s. s .number) e); buffer = refl }
-left-count (Refused r) count elements out m e = no-count r m e
+pub lent-count : {X : Type 0} (t : Status) (count : List X → ℕ) (elements out : List X) (m : ℕ) → leaveIfAccepted t count elements out .outcome ≡ reportedOutcome (Count m)
+    → LentCount t count elements out m
+lent-count Accepted count elements out m e = record { accepted = refl; number = sym (ap (λ s. s .number) e); buffer = refl }
+lent-count (Refused r) count elements out m e = no-count r m e
 
 -- of bytes, whose number is their length
 pub record WrittenCount (t : Status) (bytes out : List ℕ) (m : ℕ) : Type 0 where
@@ -36,7 +36,7 @@ pub record WrittenCount (t : Status) (bytes out : List ℕ) (m : ℕ) : Type 0 w
 
 pub written-count : (t : Status) (bytes out : List ℕ) (m : ℕ) → writeIfAccepted t bytes out .outcome ≡ reportedOutcome (Count m) → WrittenCount t bytes out m
 written-count t bytes out m e =
-    let w = left-count t length bytes out m e in
+    let w = lent-count t length bytes out m e in
     record { accepted = w .accepted; count = w .number; buffer = w .buffer; front = rw (w .buffer) (take-onto bytes out m (sym (w .number))) }
 
 -- a refusal is that of the status
@@ -46,23 +46,23 @@ written-refusal (Refused q) bytes out r e = ap Refused (same-refusal q r e)
 
 -- the three ways through a call that tests the room and then a status
 module _ {X : Type 0} (asked : ℕ) (next : Status) (count : List X → ℕ) (elements out : List X) where
-  pub left-short : length out < asked → callResult (RefusedBy BufferTooShort) out ≡ leaveIfAccepted (checkRoom asked (length out) next) count elements out
-  left-short h = rw (lt-leb asked (length out) h)
+  pub lent-short : length out < asked → callResult (RefusedBy BufferTooShort) out ≡ leaveIfAccepted (checkRoom asked (length out) next) count elements out
+  lent-short h = rw (lt-leb asked (length out) h)
 
-  pub left-refused : (r : Refusal) → asked ≤ length out → next ≡ Refused r → callResult (RefusedBy r) out ≡ leaveIfAccepted (checkRoom asked (length out) next) count elements out
-  left-refused r h e = rw (le-leb asked (length out) h, e)
+  pub lent-refused : (r : Refusal) → asked ≤ length out → next ≡ Refused r → callResult (RefusedBy r) out ≡ leaveIfAccepted (checkRoom asked (length out) next) count elements out
+  lent-refused r h e = rw (le-leb asked (length out) h, e)
 
-  pub left-whole : {exit : List X} → asked ≤ length out → next ≡ Accepted → exit ≡ onto elements out
+  pub lent-whole : {exit : List X} → asked ≤ length out → next ≡ Accepted → exit ≡ onto elements out
       → callResult (Count (count elements)) exit ≡ leaveIfAccepted (checkRoom asked (length out) next) count elements out
-  left-whole h e w = rw (le-leb asked (length out) h, e, w)
+  lent-whole h e w = rw (le-leb asked (length out) h, e, w)
 
 -- of bytes
 module _ (asked : ℕ) (next : Status) (bytes out : List ℕ) where
   pub written-short : length out < asked → callResult (RefusedBy BufferTooShort) out ≡ writeIfAccepted (checkRoom asked (length out) next) bytes out
-  written-short h = left-short asked next length bytes out h
+  written-short h = lent-short asked next length bytes out h
 
   pub written-refused : (r : Refusal) → asked ≤ length out → next ≡ Refused r → callResult (RefusedBy r) out ≡ writeIfAccepted (checkRoom asked (length out) next) bytes out
-  written-refused r h e = left-refused asked next length bytes out r h e
+  written-refused r h e = lent-refused asked next length bytes out r h e
 
   pub written-whole : {m : ℕ} {exit : List ℕ} → asked ≤ length out → next ≡ Accepted → Wrote bytes 0 out m exit
       → callResult (Count m) exit ≡ writeIfAccepted (checkRoom asked (length out) next) bytes out

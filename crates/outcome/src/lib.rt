@@ -18,7 +18,7 @@ pub enum Refusal {
     WrongMatrixEntry,
 }
 
-// The answer of a call that writes: how many bytes, or why none.
+// The answer of a call: a count, of bytes that were written or, in reading a matrix, of its tanks; or why it refuses.
 pub enum Outcome {
     Count(usize),
     Refused(Refusal),

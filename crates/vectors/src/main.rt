@@ -130,7 +130,7 @@ fn agreement(same: bool) -> Item {
 }
 
 // How many bytes a call leaves that has this count: so many, or two for each coefficient of a matrix that was read.
-fn bytes_left(stream: Stream, count: u16) -> usize {
+fn result_bytes(stream: Stream, count: u16) -> usize {
     let count = count as usize;
     match stream {
         Stream::MatrixReads => 2 * count * count,
@@ -148,7 +148,7 @@ fn read_expected(fd: i32, stream: Stream) -> Expected {
     let mut buffer = [UNTOUCHED; LONGEST_BUFFER];
     let mut complete = begun && kind <= REFUSAL;
     if complete && kind == COUNT {
-        complete = read_front(fd, bytes_left(stream, number), &mut buffer);
+        complete = read_front(fd, result_bytes(stream, number), &mut buffer);
     }
     Expected {
         complete,
@@ -496,8 +496,8 @@ fn print_kind(stream: Stream) {
     }
 }
 
-// Prints `A of N results agree`, or the same of what the other streams hold, then the number of the first that does not, and the place where a malformed
-// stream was left.
+// Prints `A of N results agree`, or the same of what the other streams hold, then the number of the first that does not, and the place where a
+// malformed stream was left.
 fn print(t: Tally, stream: Stream) {
     io::print_decimal(STDOUT_FILENO, t.agree);
     io::write_all(STDOUT_FILENO, b" of ");

@@ -17,7 +17,7 @@ pub fn compare_checks(number: u64, input: &Input) -> Outcome {
     let twin = twin::check_case(&input.bytes);
     if proved != twin {
         println!("input {number}: check_case differs");
-        println!("input:  {:02X?}", input.bytes);
+        println!("input:  {:02X?} (hexadecimal)", input.bytes);
         println!("proved: {proved:?}");
         println!("twin:   {twin:?}");
         exit(1)
@@ -90,7 +90,7 @@ impl<Given: Debug + ?Sized, Element: Copy + Debug + PartialEq> Call<Given, Eleme
         {
             let (name, room) = (self.name, buffer.len());
             println!("input {number}: {name} differs, or something outside its count has changed");
-            println!("input:  {given:02X?}");
+            println!("input:  {given:02X?} (hexadecimal)");
             println!("buffer: {room} elements, with {MARGIN} more on each side");
             println!("before: {pattern:02X?}");
             println!("proved: {proved:?}\n        {proved_left:02X?}");

@@ -1,4 +1,4 @@
--- `casefile::coefficients_fine` meets its contract: the run's test, with the coefficients' limit.
+-- `casefile::coefficients_fine` meets its contract: the list's test, with the coefficients' limit.
 -- Assumes nothing.
 use borrow.Author.Needs.{needs}
 use Rattle.casefile.proofs.coefficients_fine.Statement.{statement}

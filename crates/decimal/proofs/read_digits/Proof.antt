@@ -4,11 +4,11 @@ use Prim.Native.Nat.{_-_, _^_, _<_, _≤_}
 use borrow.Author.Needs.{needs}
 use borrow.Author.Tests.{ltb-true, ltb-false}
 use denote.Ref.{now}
-use lib.ListN.{length, getD}
+use lib.ListN.{length, getD, length-take}
 use mathlib.Core.Bool.{true}
 use mathlib.Core.Path.{_≡_, sym, _∙_}
 use native.Mathlib.Omega.{arith}
-use Rattle.decimal.specs.DigitsReadLaws.{digit-least, digit-most, ReadingDigits, digits-begun, next-fits, digits-turn, digits-all, digits-end, digits-stop}
+use Rattle.decimal.specs.DigitsReadLaws.{digit-least, digit-most, ReadingDigits, digits-begun, next-fits, digits-turn, digits-end, digits-stop}
 use Rattle.decimal.specs.Reading.{isDigit}
 use Rattle.decimal.proofs.read_digits.Statement.{statement}
 use Rattle.decimal.proofs.read_digits.Tie as tie
@@ -44,6 +44,10 @@ returns c =
     let l = c .before .before .before .before .before .loop in
     digits-stop (l .inv) (omega arith) (ltb-true _ _ (c .before .before .before .if1 .taken)) (sym (c .before .is-digit .ensures) ∙ c .if2 .left)
 
+-- the text ends there
+ended : (c : tie.Else1 Inv-loop μ-loop) → length (now (c .before .before .before .before .args .text)) ≤ c .before .before .loop .count
+ended c = ltb-false _ _ (c .if1 .left)
+
 pub read-digits-spec : {M : Type 1} → statement M
 read-digits-spec =
     tie.close
@@ -62,5 +66,5 @@ read-digits-spec =
     (λ c. omega (arith, room (c .before)))
     loop-again
     returns
-    (λ c. digits-end (c .before .before .loop .inv) (ltb-false _ _ (c .if1 .left)))
-    (λ c. digits-all (c .before .loop .inv) (omega arith)))
+    (λ c. digits-end (c .before .before .loop .inv) (rw length-take (omega (arith, ended c))))
+    (λ c. digits-end (c .before .loop .inv) (rw length-take (omega arith))))

@@ -13,7 +13,7 @@ use Rattle.limits.specs.Limits.{mostCoefficients}
 use Rattle.buffer.specs.Buffer.{onto}
 use Rattle.buffer.specs.Laws.{part-is}
 use Rattle.outcome.specs.CallResult.{callResult}
-use Rattle.outcome.specs.CallResultLaws.{left-short, left-refused, left-whole}
+use Rattle.outcome.specs.CallResultLaws.{lent-short, lent-refused, lent-whole}
 use Rattle.outcome.specs.declared.Outcome.the-variants.{Count}
 use Rattle.matrixfile.specs.Read.{textStatus, tanksIn, coefficientsIn, readMatrix}
 use Rattle.matrix_reader.specs.Parts.{EntriesRead, Square}
@@ -52,14 +52,14 @@ returns : tie.Need-returns
 unfolding readMatrix
 returns c =
     let s = c .before .before in
-    left-short mostCoefficients (textStatus (text s)) (λ l. tanksIn (text s)) (coefficientsIn (text s)) (list s) (c .if1 .taken)
+    lent-short mostCoefficients (textStatus (text s)) (λ l. tanksIn (text s)) (coefficientsIn (text s)) (list s) (c .if1 .taken)
 
 returns-2 : tie.Need-returns-2
 unfolding readMatrix
 returns-2 c =
     let h = c .before .before in
     let s = h .before .before .before in
-    left-refused mostCoefficients (textStatus (text s)) (λ l. tanksIn (text s)) (coefficientsIn (text s)) (list s) _ (h .before .if1 .left)
+    lent-refused mostCoefficients (textStatus (text s)) (λ l. tanksIn (text s)) (coefficientsIn (text s)) (list s) _ (h .before .if1 .left)
     (header-status (text s) (h .read-header .ensures) (not-true _ (c .if2 .taken)))
 
 returns-3 : tie.Need-returns-3
@@ -67,7 +67,7 @@ unfolding readMatrix
 returns-3 c =
     let e = c .before .before in
     let s = start (begun e) in
-    left-refused mostCoefficients (textStatus (text s)) (λ l. tanksIn (text s)) (coefficientsIn (text s)) (list s) _ (header (begun e) .before .if1 .left)
+    lent-refused mostCoefficients (textStatus (text s)) (λ l. tanksIn (text s)) (coefficientsIn (text s)) (list s) _ (header (begun e) .before .if1 .left)
     (entries-status (text s) (header (begun e) .read-header .ensures) (not-false _ (begun e .if2 .left)) (entries e) (not-true _ (c .if3 .taken)))
 
 write-rows-requires : tie.Need-write-rows-requires
@@ -85,7 +85,7 @@ returns-4 c =
     let q = not-false _ (begun e .if2 .left) in
     let f = not-false _ (k .if3 .left) in
     ap (λ (m : ℕ). callResult (Count m) (c .before .write-rows .last .1 .1 .0)) (h .ensures .tanks q)
-    ∙ left-whole mostCoefficients (textStatus (text s)) (λ l. tanksIn (text s)) (coefficientsIn (text s)) (list s) (header (begun e) .before .if1 .left)
+    ∙ lent-whole mostCoefficients (textStatus (text s)) (λ l. tanksIn (text s)) (coefficientsIn (text s)) (list s) (header (begun e) .before .if1 .left)
     (whole-status (text s) (h .ensures) q (entries e) f)
     (c .before .write-rows .ensures ∙ ap (λ (l : List ℤ). onto l (list s)) (whole-coefficients (text s) (h .ensures) q (entries e) f))
 

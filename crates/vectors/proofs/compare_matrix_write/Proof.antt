@@ -1,4 +1,5 @@
--- `vectors::compare_matrix_write` is safe and ends: a part that it lends has as many elements as its end says, since no list is longer than its place and the buffer's end was tested.
+-- `vectors::compare_matrix_write` is safe and ends: a part that it lends has as many elements as its end says, since no list is longer than its place
+-- and the buffer's end was tested.
 -- Assumes nothing.
 use borrow.Author.Needs.{needs}
 use lib.Seq.{length-take-le}
