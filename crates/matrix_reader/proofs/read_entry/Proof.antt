@@ -5,10 +5,11 @@ use borrow.Author.Needs.{needs}
 use borrow.Author.Tests.{not-true, not-false}
 use denote.Ref.{now}
 use lib.Dec.{leb}
+use lib.IntN.{pos, negℤ}
 use lib.ListN.{drop}
-use mathlib.Core.Bool.{true, _&&_, cond}
+use mathlib.Core.Bool.{Bool, true, _&&_, cond}
 use mathlib.Core.List.{List}
-use mathlib.Core.Path.{_≡_, sym, _∙_}
+use mathlib.Core.Path.{_≡_, sym, ap, _∙_}
 use mir.Facts.{toZ-ofZ}
 use mir.Syntax.{w16}
 use native.Mathlib.Omega.{arith}
@@ -57,7 +58,8 @@ returns-2 : tie.Need-returns-2
 returns-2 c =
     let k = c .before in
     let d = read (tested k) in
-    let value = rw (sign-known d .before .is-negative .ensures) at (c .with-sign .ensures) in
+    let v = d .read-digits .result .value in
+    let value = c .with-sign .ensures ∙ ap (λ (b : Bool). cond b (negℤ (pos v)) (pos v)) (sign-known d .before .is-negative .ensures) in
     entry-accepted _ (sign (sign-known d)) (digits d) (passed k) (toZ-ofZ {w = w16} (record { sfits = c .with-sign .ok }) ∙ value)
 
 pub read-entry-spec : {M : Type 1} → statement M
