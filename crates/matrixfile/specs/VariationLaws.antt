@@ -105,7 +105,7 @@ module _ (text : List ℕ) (e : textStatus text ≡ Accepted) where
   counted : length (entriesOf (tanksIn text * tanksIn text) (atEntries text)) ≡ tanksIn text * tanksIn text
   counted = length-entries (tanksIn text * tanksIn text) (atEntries text)
 
-  -- "what is read is within the limits"
+  -- what is read is within the limits
   pub read-fine : MatrixFine (tanksIn text) (coefficientsIn text)
   unfolding coefficientsIn
   read-fine =
