@@ -636,7 +636,7 @@ def call_write_matrix(n, coefficients, buffer_length, fill=0xA5):
 # ---------------------------------------------------------------- the changes a record yields
 
 
-# "the sign transposed where Y is negative and no change where Y is zero"
+# "the sign turned where Y is negative and no change where Y is zero"
 def sign(figure):
     return (figure > 0) - (figure < 0)
 
