@@ -5,6 +5,10 @@ bytes and the length of the result buffer. Figures outside their limits are enco
 purpose, so the encoder here checks nothing and is not the writer of reference.py.
 """
 
+import math
+from contextlib import contextmanager
+from fractions import Fraction
+
 import reference
 
 BUFFERS = (0, 1, 179, 180, 181, 400)
@@ -106,6 +110,29 @@ def finished(data):
     except reference.Refused as refused:
         return refused.place or "refused", refused.number
     return "met" if result.trial.judgement.met else "unmet", result.rounds_used
+
+
+# ---------------------------------------------------------------- the rule before, and which inputs it chose
+
+
+def away_from_zero(p, q):
+    """rnd as it was before document 02's "Halves to the even number": a half goes away from zero."""
+    nearest = (2 * abs(p) + abs(q)) // (2 * abs(q))
+    return nearest if (p < 0) == (q < 0) else -nearest
+
+
+@contextmanager
+def rounding_by(rule):
+    """Another rule for rnd, while in use.
+
+    Families that looked for their cases before that change stand under away_from_zero, so that they
+    find the same inputs as then. Results always follow the rule of reference.py.
+    """
+    today, reference.rnd = reference.rnd, rule
+    try:
+        yield
+    finally:
+        reference.rnd = today
 
 
 # ---------------------------------------------------------------- sample cases to spoil
@@ -378,6 +405,7 @@ def singular():
     return with_buffers(inputs)
 
 
+@rounding_by(away_from_zero)
 def nearly_singular():
     """Small or zero determinants: refusal 8 without cause, and no refusal 8 with cause."""
     stream = Stream(4)
@@ -421,17 +449,21 @@ def pivot_ties():
     return with_buffers(inputs)
 
 
+def shuffled(stream, values):
+    values = list(values)
+    for i in range(len(values) - 1, 0, -1):
+        j = stream.between(0, i)
+        values[i], values[j] = values[j], values[i]
+    return values
+
+
 def row_orders():
     """Permuted triangular cases with a tolerance of its own in each row."""
     stream, inputs = Stream(6), []
     for n in range(2, 9):
         for _ in range(10):
-            order = list(range(n))
-            for i in range(n - 1, 0, -1):
-                j = stream.between(0, i)
-                order[i], order[j] = order[j], order[i]
             rows = []
-            for i in order:
+            for i in shuffled(stream, range(n)):
                 coefficients = [stream.between(-9, 9) if j > i else 0 for j in range(n)]
                 coefficients[i] = stream.one_of((-40, 7, 13))
                 rows.append((coefficients, [stream.between(0, 1) * i] * n,
@@ -459,6 +491,52 @@ def halves():
         for b in (1, -1, 3, -5, 999):
             inputs.append(square([[ratio, 1], [1, 5]], [b, 100], f=0, rounds=1))
             inputs.append(square([[ratio, 1], [1, 5]], [b, -100], f=1, rounds=4))
+    return with_buffers(inputs)
+
+
+def odd(stream, most):
+    """An odd number on either side of zero."""
+    return 2 * stream.between(-most, most - 1) + 1
+
+
+def on_halves(stream, n):
+    """A case with halves in its multipliers, in the forward pass and, as chance has it, in its entries' losses.
+
+    Signs aside: W(1,1) is 65,536 and W(i,1) 256, so that M(i,1) is 64, z(1) / 256 on a half, and W(i,2) odd;
+    W(2,2) is 32,768, so that M(i,2) comes from a half, and W(2,j) 4,096 times an odd number. The rows below
+    are so close to multiples of the second that the last pivots are small: the answer shows one more or less.
+    Where n is even the last tank has a row of its own, with its correction on a half.
+    """
+    e, alone = stream.between(0, 3), n % 2 == 0
+    d, later = 10 ** e, n - 2 - alone
+    first, second, last = (stream.one_of((1, -1)) * size for size in (256, 128, stream.between(1, 9)))
+    large = [16 * odd(stream, 250) for _ in range(later)]
+    rows = [([first, odd(stream, 60), *stream.list(later, -99, 99)], (128 >> e) * odd(stream, 9)),
+            ([0, second, *large], stream.between(-99, 99))]
+    for _ in range(later):
+        low = stream.between(-99, 99)
+        beside = [low * a // second + stream.between(-1, 1) for a in large]
+        rows.append(([stream.one_of((1, -1)), low, *beside], stream.between(-20_000 // d, 20_000 // d)))
+    if alone:
+        rows = [(row + [0], b) for row, b in rows] + [([0] * (n - 1) + [2 * d * last], last * odd(stream, 9))]
+    f = stream.one_of((0, 1, 1, 90_000))
+    return encode(e, stream.one_of((1, 1, 2)), [(row, [0] * n, b, f) for row, b in shuffled(stream, rows)])
+
+
+def half_shows(data, call=reference.call):
+    """Whether the call leaves a count of bytes, and other ones than when a half went away from zero."""
+    today = call(data, reference.LEAST_RESULT_BUFFER)
+    with rounding_by(away_from_zero):
+        before = call(data, reference.LEAST_RESULT_BUFFER)
+    return today[0].kind == reference.COUNT and today != before
+
+
+def even_halves():
+    """Halves in every place that rounds, odd and even quotients on both sides of zero; each case shows one."""
+    stream, inputs = Stream(16), []
+    for n in range(3, 9):
+        drawn = [on_halves(stream, n) for _ in range(30)]
+        inputs += [data for data in drawn if half_shows(data)][:15]
     return with_buffers(inputs)
 
 
@@ -505,6 +583,7 @@ def demanding(stream):
     return square(coefficients, b, tolerance, stream.one_of((0, 0, 1, 10)), e=e, rounds=8)
 
 
+@rounding_by(away_from_zero)
 def later_rounds():
     """Met at each round from 1 to 8, the same unmet with one round less, refused later on."""
     stream, inputs = Stream(9), []
@@ -584,7 +663,7 @@ def close_factors():
     for _ in range(60):
         v = stream.between(low, high // 3)
         u = stream.between(low, high // 3)
-        while reference.Fraction(u, v).denominator != v:
+        while Fraction(u, v).denominator != v:
             u += 1
         p, q = neighbour(u, v, high)
         pairs = [(u, v), (2 * u, 2 * v), (p if p < high else u, q if p < high else v), (u - 1, v)]
@@ -780,7 +859,10 @@ def steep(stream, n):
 
 
 def halving(stream, n):
-    """One tank a row; an answer on a half goes up and down for ever, any other stays where it is."""
+    """One tank a row, some answers on a half: the first round's figure stays.
+
+    When a half went away from zero, such an answer went up and down between two figures.
+    """
     rows = []
     for i in range(n):
         half, tolerances = stream.between(1, 9), [0] * n
@@ -803,13 +885,15 @@ def narrow(stream, n):
 
 
 def balanced(stream, n):
-    """Two trials in turn, one row that decides both: equal factors of different figures, or nearly equal ones."""
+    """One tank's figure is on a half, and a row that decides hangs on it: the figure is 0 and stays.
+
+    When a half went away from zero it went from 1 to 0 and back, with equal or nearly equal factors.
+    """
     rows = [[[2 * (i == j) for j in range(n)], [0] * n, stream.one_of((1, -3, 8)), 9] for i in range(n)]
     first = stream.between(0, n - 1)
     second = (first + stream.between(1, n - 1)) % n
     factor, f, tolerance = stream.between(2, 5), stream.between(1, 4), stream.between(1, 3)
     lean, large = stream.one_of((0, 0, -1, 1)) - tolerance * factor, stream.between(200, 999)
-    # the first tank's figure goes from 1 to 0 and back
     rows[first] = [[40 * (j == first) for j in range(n)], [0] * n, 20, 20]
     rows[second] = [[lean * (j == first) + large * (j == second) for j in range(n)],
                     [tolerance * (j == first) for j in range(n)],
@@ -828,19 +912,106 @@ WANTED_TRIALS = {
 }
 
 
+def looked_for(stream, n, wanted, draws, makers):
+    """Cases with these kinds of trials, as many as are wanted or as the draws bring."""
+    inputs, wanted = [], dict(wanted)
+    for k in range(draws):
+        data = makers[k % len(makers)](stream, n)
+        due = [kind for kind in trial_kinds(data) if wanted.get(kind)]
+        if due:
+            inputs.append(data)
+        for kind in due:
+            wanted[kind] -= 1
+    return inputs
+
+
+@rounding_by(away_from_zero)
 def best_trials():
     """Every kind of ranking for each n, as far as chance finds it, and some of the cases with one round."""
     stream, inputs = Stream(15), []
     for n in range(1, 9):
-        wanted = dict(WANTED_TRIALS)
-        for k in range(1_800):
-            data = (halving, narrow, crowded, steep, balanced)[k % (5 if n > 1 else 3)](stream, n)
-            due = [kind for kind in trial_kinds(data) if wanted.get(kind)]
-            if due:
-                inputs.append(data)
-            for kind in due:
-                wanted[kind] -= 1
+        makers = (halving, narrow, crowded, steep, balanced)[:5 if n > 1 else 3]
+        inputs += looked_for(stream, n, WANTED_TRIALS, 1_800, makers)
         inputs += [with_rounds(data, 1) for data in inputs[-3:]]
+    return with_buffers(inputs)
+
+
+# ---------------------------------------------------------------- trials in turn
+
+
+def overshooting(stream):
+    """Two rows of two tanks whose second pivot is rounded to about half: every correction is twice too large.
+
+    Of each row its two coefficients and its right side; those of the second have a common divisor now and then.
+    """
+    while True:
+        a, b = stream.list(2, 9_000, COEFFICIENT)
+        times = stream.between(1, 5)
+        c = times * stream.between(1, 9_000 // times)
+        d = times * (b * c // a // times + stream.between(0, 1))
+        pivot = 256 * d - reference.loss(reference.multiplier(c, a), 256 * b)
+        if pivot and abs(Fraction(256 * (a * d - b * c), a * pivot) - 2) <= Fraction(1, 4):
+            right = stream.between(-5 * a, 5 * a)
+            return (a, b, right), (c, d, times * (c * right // a // times + stream.between(0, 1)))
+
+
+def alternating_rows(stream, n):
+    """Rows in which two tanks go to and fro between two trials or a few, and which tanks and rows those are."""
+    first = stream.between(0, n - 2)
+    pair = (first, stream.between(first + 1, n - 1))
+    rows = [[[stream.between(1, 99) * (i == j) for j in range(n)], [0] * n, stream.between(-999, 999), 99]
+            for i in range(n)]
+    for i, (left, beside, right) in zip(pair, overshooting(stream)):
+        rows[i] = [[left * (j == pair[0]) + beside * (j == pair[1]) for j in range(n)], [0] * n, right, 0]
+    return rows, pair
+
+
+def alternating(stream, n):
+    """One tolerance in each of the two rows: no reach where that tank's figure comes to zero."""
+    rows, pair = alternating_rows(stream, n)
+    for i in pair:
+        rows[i][1][stream.one_of(pair)], rows[i][3] = stream.between(1, 50), stream.one_of((0, 0, 1))
+    return encode(0, stream.between(2, 8), rows)
+
+
+def matching(trials, row, tank):
+    """A tolerance for this tank and an f by which the row's factor is the same above 1 in both trials, or zeros.
+
+    The larger residual has to be where the tank's figure is larger.
+    """
+    sizes = [(abs(trial.answer[tank]), abs(trial.judgement.residuals[row])) for trial in trials]
+    (p, r), (q, s) = sorted(sizes)
+    common = math.gcd(r, s)
+    if not (p < q and 0 < r < s and common > q - p):
+        return 0, 0
+    tolerance = (s - r) // common
+    f = (q - p) * (r // common) - tolerance * p
+    return (tolerance, f) if f >= 0 and tolerance <= TOLERANCE else (0, 0)
+
+
+def equal_in_turn(stream, n):
+    """One of the two rows decides, with equal factors of different figures in the trials that come in turn."""
+    rows, pair = alternating_rows(stream, n)
+    row, tank = stream.one_of(pair), stream.one_of(pair)
+    trials, _ = rounds_of(encode(0, 8, rows))
+    rows[pair[0]][3] = rows[pair[1]][3] = RIGHT
+    if len(trials) == 8:
+        rows[row][1][tank], rows[row][3] = matching(trials[-2:], row, tank)
+    return encode(0, stream.between(2, 8), rows)
+
+
+# how many cases of each kind are looked for with each n from 2 on; one tank stays where the first round puts it
+WANTED_IN_TURN = {
+    "best in several rounds, differing": 4, "least factor from different figures": 4,
+    "kept with a factor, last without": 5, "kept with a factor, an earlier one without": 2,
+}
+
+
+def trials_in_turn():
+    """Answers and factors that come and go in turn; halves brought them when these went up and down."""
+    stream, inputs = Stream(17), []
+    for n in range(2, 9):
+        inputs += looked_for(stream, n, WANTED_IN_TURN, 900, (alternating, equal_in_turn))
     return with_buffers(inputs)
 
 
@@ -854,6 +1025,7 @@ FAMILIES = [
     ("later rounds", later_rounds), ("outside", outside), ("close factors", close_factors),
     ("boundaries", boundaries), ("zero reaches", zero_reaches), ("equal factors", equal_factors),
     ("extremes", extremes), ("signs", signs), ("best trials", best_trials),
+    ("even halves", even_halves), ("trials in turn", trials_in_turn),
 ]
 
 

@@ -224,9 +224,11 @@ def write_case(n, e, rounds, coefficients, tolerances, right_sides, right_tolera
 # ---------------------------------------------------------------- the steps
 
 
-# "rnd(p/q) is the nearest whole number to p/q; a half goes away from zero, on both sides of zero."
+# "rnd(p/q) is the nearest whole number to p/q" / "From now rnd takes a half to the even neighbour everywhere."
 def rnd(p, q):
-    nearest = (2 * abs(p) + abs(q)) // (2 * abs(q))
+    whole, rest = divmod(abs(p), abs(q))
+    past_half, on_half = 2 * rest > abs(q), 2 * rest == abs(q)
+    nearest = whole + 1 if past_half or on_half and whole % 2 == 1 else whole
     return nearest if (p < 0) == (q < 0) else -nearest
 
 

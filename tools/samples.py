@@ -75,6 +75,7 @@ SAMPLES = {
     "spoiled": spoiled,
     "soundings": soundings,
     "best-trial": best_trial,
+    "half": lambda: one(2, 1, 0, 1),
 }
 
 # column after column: the rows are (-420, 0, 435), (1850, -2210, 1835) and (95, 310, 102)

@@ -7,7 +7,9 @@ units of 1/D tonnes; it is inside the table if it is from 0 to 520 × D.
 
 import families
 import reference
-from families import ANSWER, END, RIGHT, Stream, encode, number, with_rounds
+from families import (
+    ANSWER, END, RIGHT, Stream, away_from_zero, encode, number, rounding_by, with_rounds,
+)
 
 SHORT = (0, 1, 15)
 LONG = (16, 17, 128, 180, 400)
@@ -214,6 +216,7 @@ def ending(data):
     return 0 if depths else 10, len(trials), depths
 
 
+@rounding_by(away_from_zero)
 def later_rounds():
     """Ended by each round from 1 to 8; a last trial inside the table has other depths than the one before."""
     stream, inputs = Stream(36), []
@@ -257,16 +260,49 @@ def kept_and_last(data):
     return "both inside, differing" if kept and last else "last outside" if kept else "kept outside"
 
 
-def best_trials():
-    """The depths are those of the trial kept: the last one has others, or only one of the two is inside."""
-    stream, inputs = Stream(37), []
-    wanted = {"both inside, differing": 40, "last outside": 12, "kept outside": 12}
+def looked_for(stream, wanted):
+    """Cases in which the depths of the trial kept and of the last one differ, as many of each kind as are wanted."""
+    inputs, wanted = [], dict(wanted)
     while any(wanted.values()):
         data = wavering(stream)
         kind = kept_and_last(data)
         if wanted.get(kind):
             wanted[kind] -= 1
             inputs.append(data)
+    return with_long_buffers(inputs)
+
+
+@rounding_by(away_from_zero)
+def best_trials():
+    """The depths are those of the trial kept: the last one has others, or only one of the two is inside."""
+    return looked_for(Stream(37), {"both inside, differing": 40, "last outside": 12, "kept outside": 12})
+
+
+def more_best_trials():
+    """A few more, for those of the cases above that a half to the even number took from their kind."""
+    return looked_for(Stream(39), {"last outside": 4, "kept outside": 4})
+
+
+# ---------------------------------------------------------------- answers on a half
+
+
+def halfway(e, doubles, size):
+    """A case with one tank a row; the answers before rounding are half of these."""
+    n, d = len(doubles), 10 ** e
+    rows = [([2 * d * size * (i == j) for j in range(n)], [0] * n, size * double, 0)
+            for i, double in enumerate(doubles)]
+    return encode(e, 1, rows)
+
+
+def even_halves():
+    """Half a unit beside both ends of the table, and answers whose other neighbour has another depth."""
+    stream, inputs = Stream(38), []
+    for e in range(4):
+        inputs += [halfway(e, [double], 1 + e) for double in (-3, -1, 1, 2 * most(e) - 1, 2 * most(e) + 1)]
+    for n in range(1, 9):
+        for e in (0, 1, 2):
+            data = halfway(e, [2 * stream.between(0, most(e) - 1) + 1 for _ in range(n)], stream.between(-9, -1))
+            inputs += [data] if families.half_shows(data, reference.call_soundings) else []
     return with_long_buffers(inputs)
 
 
@@ -363,7 +399,7 @@ FAMILIES = [
     ("several outside", several_outside), ("verdicts", verdicts), ("planted", planted),
     ("later rounds", later_rounds), ("refusal 8", eight), ("refusal 9", nine), ("cuts", cuts),
     ("changed heads", changed_heads), ("spoiled figures", spoiled_figures), ("precedence", precedence),
-    ("best trials", best_trials),
+    ("best trials", best_trials), ("more best trials", more_best_trials), ("even halves", even_halves),
 ]
 
 

@@ -41,11 +41,12 @@ PLACE_FILL = -0x5A5B
 
 
 def nearest(value):
-    """The nearest whole number to a fraction, a half away from zero, by looking at neighbours."""
+    """The nearest whole number to a fraction, of two equally near the even one, by looking at neighbours."""
     below = value.numerator // value.denominator
     candidates = [below, below + 1]
     least = min(abs(value - c) for c in candidates)
-    return max((c for c in candidates if abs(value - c) == least), key=abs)
+    near = [c for c in candidates if abs(value - c) == least]
+    return near[0] if len(near) == 1 else next(c for c in near if c % 2 == 0)
 
 
 def determinant(rows):
@@ -269,8 +270,40 @@ class Rounding(unittest.TestCase):
             self.assertEqual(reference.rnd(p, q), nearest(Fraction(p, q)), (p, q))
 
     def test_halves_on_both_sides(self):
-        self.assertEqual([reference.rnd(p, 2) for p in (-5, -3, -1, 1, 3, 5)], [-3, -2, -1, 1, 2, 3])
-        self.assertEqual([reference.rnd(p, -2) for p in (-5, -3, -1, 1, 3, 5)], [3, 2, 1, -1, -2, -3])
+        halves, even = (-7, -5, -3, -1, 1, 3, 5, 7), [-4, -2, -2, 0, 0, 2, 2, 4]
+        self.assertEqual([reference.rnd(p, 2) for p in halves], even)
+        self.assertEqual([reference.rnd(-p, -2) for p in halves], even)
+        self.assertEqual([reference.rnd(-p, 2) for p in halves], even[::-1])
+        self.assertEqual([reference.rnd(p, -2) for p in halves], even[::-1])
+
+    def test_halves_of_any_divisor(self):
+        """A half lies between a whole number and the next one, of which one is even."""
+        for half in (1, 2, 3, 7, 128, 8_192, 16_384, 2 ** 31, 2 ** 40 + 1):
+            for whole in (*range(-6, 7), -20_000_000, -19_999_999, 19_999_998, 19_999_999, 2 ** 29 - 1):
+                p, q = (2 * whole + 1) * half, 2 * half
+                even = whole if whole % 2 == 0 else whole + 1
+                self.assertEqual((reference.rnd(p, q), reference.rnd(-p, -q)), (even, even))
+                self.assertEqual((reference.rnd(p - 1, q), reference.rnd(p + 1, q)), (whole, whole + 1))
+
+    def test_as_floating_figures_are_rounded(self):
+        """"The operators' other programs round as IEEE 754 does by default": quarters have no error there."""
+        for p in range(-400, 401):
+            for q in (1, 2, 4):
+                self.assertEqual(reference.rnd(p, q), round(p / q))
+
+    def test_stored_halves_in_each_place(self):
+        """At least 50 finished cases for each place, with odd and even quotients and on both sides of zero."""
+        found = Counter(kind for _, data, length in INPUTS for kind in vectors.kinds(data, length))
+        places = ("multiplier", "entry's loss", "forward pass", "correction")
+        for place, parity, side in itertools.product(places, ("odd", "even"), ("above", "below")):
+            kind = f"half in {place}, {parity}, {side} zero"
+            self.assertGreaterEqual(found[kind], 50, kind)
+
+    def test_even_halves_show(self):
+        """Each case made for them has another record than with the rule before."""
+        made = [data for family, data, _ in INPUTS if family == "even halves"]
+        self.assertTrue(all(families.half_shows(data) for data in made))
+        self.assertEqual({data[3] for data in made}, set(range(3, 9)))
 
 
 class PaperTrials(unittest.TestCase):
@@ -303,7 +336,7 @@ class PaperTrials(unittest.TestCase):
         self.check(one(3, -1, 0, 1, e=1), answer=[-3], residuals=[-1], reaches=[10], met=1)
 
     def test_a2(self):
-        self.check(one(2, 1, 0, 1), answer=[1], residuals=[-1], reaches=[1], met=1, rounds_used=1)
+        self.check(one(2, 1, 0, 1), answer=[0], residuals=[1], reaches=[1], met=1, rounds_used=1)
         self.check(one(2, 4, 1, 0, rounds=0, trial=1), residuals=[2], reaches=[1], met=0, none=0, decides=1,
                    first_unmet=1, rounds_used=0)
         self.assertEqual(reference.factor(2, 1), 2)
@@ -411,7 +444,7 @@ class Steps(unittest.TestCase):
             case = reference.read_case(data)
             if isinstance(case, int) or case.rounds == 0 or family == "every shape":
                 continue
-            if case.n > 5 and family != "best trials":
+            if case.n > 5 and family not in ("best trials", "even halves", "trials in turn"):
                 continue
             expected = step_by_step(case)
             try:
@@ -541,20 +574,40 @@ class KeptTrials(unittest.TestCase):
         self.check(data, [46, 480], 5, residuals=[110, 20], reaches=[10, 10], none=0, decides=1)
 
     def test_one_tank_on_a_half(self):
-        """The answer goes up and down between two figures."""
+        """The first round takes the even figure; what is left is half a coefficient, and corrects nothing."""
         for rounds in range(1, 9):
             self.check(one(6, 9, 0, 1, rounds=rounds), [2], rounds, residuals=[-3], reaches=[1])
             self.check(one(6, 9, 1, 0, rounds=rounds), [2], rounds, residuals=[-3], reaches=[2])
-            self.check(one(6, 3, 1, 0, rounds=rounds), [1], rounds, none=0, residuals=[-3], reaches=[1])
-            self.check(one(6, 3, 0, 0, rounds=rounds), [1], rounds, none=1, residuals=[-3], reaches=[0])
-        self.assertEqual(self.rounds(one(6, 9, 0, 1, rounds=3)), [([2], 3), ([1], 3), ([2], 3)])
-        self.assertEqual(self.rounds(one(6, 3, 1, 0, rounds=3)), [([1], 3), ([0], None), ([1], 3)])
+            self.check(one(6, 15, 1, 0, rounds=rounds), [2], rounds, none=0, residuals=[3], reaches=[2])
+            self.check(one(6, -15, 0, 1, rounds=rounds), [-2], rounds, none=0, residuals=[-3], reaches=[1])
+            self.check(one(6, 3, 1, 0, rounds=rounds), [0], rounds, none=1, residuals=[3], reaches=[0])
+            self.check(one(6, 3, 0, 2, rounds=rounds), [0], rounds, none=0, residuals=[3], reaches=[2])
+        self.assertEqual(self.rounds(one(6, 9, 0, 1, rounds=3)), [([2], 3)] * 3)
+        self.assertEqual(self.rounds(one(6, 3, 1, 0, rounds=3)), [([0], None)] * 3)
+
+    def test_one_tank_stays(self):
+        stream = Stream(113)
+        for _ in range(300):
+            a, b = stream.between(1, 99) * stream.one_of((1, -1)), stream.between(-999, 999)
+            answers = [answer for answer, _ in self.rounds(one(a, b, e=stream.between(0, 3), rounds=8))]
+            self.assertEqual(answers, answers[:1] * len(answers))
 
     def test_first_trials_without_a_factor(self):
         data = encode(0, 4, [([4, 1], [1, 0], 9, 0), ([-1, 1], [0, 0], 6, 0)])
-        self.assertEqual(self.rounds(data), [([1, 6], None), ([0, 7], None), ([1, 7], 2), ([1, 6], None)])
-        for rounds, answer, none in ((1, [1, 6], 1), (2, [1, 6], 1), (3, [1, 7], 0), (4, [1, 7], 0)):
+        self.assertEqual(self.rounds(data), [([1, 6], None)] + [([1, 7], 2)] * 3)
+        for rounds, answer, none in ((1, [1, 6], 1), (2, [1, 7], 0), (4, [1, 7], 0)):
             self.check(families.with_rounds(data, rounds), answer, rounds, none=none)
+        data = encode(0, 4, [([2, 3], [1, 0], 0, 0), ([4, -1], [0, 1], 3, 0)])
+        self.assertEqual(self.rounds(data), [([0, -1], None), ([1, 0], None), ([1, -1], 2), ([1, 0], None)])
+        for rounds, answer, none in ((1, [0, -1], 1), (2, [0, -1], 1), (3, [1, -1], 0), (4, [1, -1], 0)):
+            self.check(families.with_rounds(data, rounds), answer, rounds, none=none)
+
+    def test_a_factor_that_comes_and_goes(self):
+        """Two trials in turn: the second tank's figure goes from 1 to 0 and back, and with it every reach."""
+        data = encode(0, 4, [([2, 1], [0, 1], 1, 0), ([4, -1], [0, 1], 1, 0)])
+        self.assertEqual(self.rounds(data), [([0, 1], 2), ([0, 0], None)] * 2)
+        for rounds in (1, 2, 3, 4):
+            self.check(families.with_rounds(data, rounds), [0, 1], rounds, residuals=[0, 2], reaches=[1, 1])
 
     def test_a_trial_that_is_met_ends_the_work(self):
         data = square([[11_900, 13_700], [3_300, 3_800]], [8_830_700, 2_449_200], f=1, rounds=8)
@@ -589,7 +642,8 @@ class KeptTrials(unittest.TestCase):
         self.assertEqual({data[5] for data in unmet}, set(range(1, 9)))
 
     def test_stored_soundings_of_every_kind(self):
-        found = Counter(sounding_calls.kept_and_last(data) for name, data, _ in CALLS if name == "best trials")
+        found = Counter(sounding_calls.kept_and_last(data) for name, data, _ in CALLS
+                        if name in ("best trials", "more best trials"))
         self.assertGreaterEqual(found["both inside, differing"], 30)
         self.assertGreaterEqual(min(found["last outside"], found["kept outside"]), 10)
 
@@ -758,6 +812,15 @@ class Soundings(unittest.TestCase):
     def test_sample(self):
         self.assertEqual(self.depths(samples.soundings()), [200, 99, 61])
         self.assertEqual(finished_record(samples.soundings()).answer, [2_200, 994, 589])
+
+    def test_answers_on_a_half(self):
+        """The even figure's depth; half a unit outside the table is inside, since its ends are even."""
+        for e in range(4):
+            for double, figure in ((-1, 0), (1, 0), (3, 2), (1_040 * 10 ** e - 1, 520 * 10 ** e),
+                                   (1_040 * 10 ** e + 1, 520 * 10 ** e)):
+                self.assertEqual(self.depths(sounding_calls.halfway(e, [double], 1)), [depth_by_root(figure, e)])
+            for double in (-3, 1_040 * 10 ** e + 3):
+                self.refused(sounding_calls.halfway(e, [double], 1), 10)
 
     def test_one_tank_outside_leaves_every_byte(self):
         for n in range(1, 9):
@@ -1202,7 +1265,7 @@ class StoredForms(unittest.TestCase):
         self.each("matrix_writes.bin", self.check_matrix_write, 200)
 
     def test_sizes(self):
-        self.assertLess(sum(len(content) for content in self.files.values()), 2_300_000)
+        self.assertLess(sum(len(content) for content in self.files.values()), 2_400_000)
 
     def test_samples_parse(self):
         for name, content in samples.make_files().items():
@@ -1242,23 +1305,63 @@ class Caught:
         self.assertGreaterEqual(differing, least, name)
 
 
+def toward_zero(p, q):
+    """Rounds to the nearest whole number, a half toward zero."""
+    size = (2 * abs(p) + abs(q) - 1) // (2 * abs(q))
+    return size if (p < 0) == (q < 0) else -size
+
+
+def to_odd(p, q):
+    """Rounds to the nearest whole number, a half to the odd neighbour."""
+    return toward_zero(p, q) if abs(p) // abs(q) % 2 else families.away_from_zero(p, q)
+
+
+def even_above_zero(p, q):
+    """Rounds to the nearest whole number, a half to the even neighbour above zero and away from zero below."""
+    return RIGHT_RULE(p, q) if (p < 0) == (q < 0) else families.away_from_zero(p, q)
+
+
+def upward(p, q):
+    """"Rounding by adding half and dividing downward, which is wrong below zero." """
+    return (2 * p + q) // (2 * q)
+
+
+RIGHT_RULE = reference.rnd
+WRONG_RULES = (families.away_from_zero, toward_zero, to_odd, even_above_zero, upward)
+
+
+def within(name, part, wrong):
+    """The function of this name in the reference, with a part of it wrong inside it and right elsewhere."""
+    right = getattr(reference, name)
+
+    def changed(*arguments):
+        with mock.patch.object(reference, part, wrong):
+            return right(*arguments)
+
+    return changed
+
+
 class Mistakes(Caught, unittest.TestCase):
     """Mistakes in records and printed verdicts, over the vectors."""
 
     results = staticmethod(results)
-    inputs = [(data, length) for _, data, length in INPUTS if length >= 180 and len(data) < 160]
+    inputs = [(data, length) for family, data, length in INPUTS
+              if length >= 180 and (len(data) < 160 or family == "even halves")]
 
     def test_rounding(self):
-        self.caught("rnd", lambda p, q: (2 * p + q) // (2 * q))
-        self.caught("rnd", lambda p, q: round(Fraction(p, q)))
+        for rule in WRONG_RULES:
+            self.caught("rnd", rule, 50)
         self.caught("rnd", lambda p, q: reference.sign(p) * reference.sign(q) * (abs(p) // abs(q)))
 
     def test_rounding_in_each_place(self):
-        def even(p, q):
-            return round(Fraction(p, q))
+        for rule in WRONG_RULES:
+            def wrong_loss(m, figure):
+                return rule(m * figure, 16_384)
 
-        self.caught("multiplier", lambda entry, pivot: even(16_384 * entry, pivot))
-        self.caught("loss", lambda m, figure: even(m * figure, 16_384))
+            self.caught("multiplier", lambda entry, pivot: rule(16_384 * entry, pivot), 10)
+            self.caught("clear_below", within("clear_below", "loss", wrong_loss), 10)
+            self.caught("forward", within("forward", "loss", wrong_loss), 10)
+            self.caught("backward", within("backward", "rnd", rule), 10)
 
     def test_pivot(self):
         def lowest(working, k):
@@ -1391,6 +1494,10 @@ class SoundingMistakes(Caught, unittest.TestCase):
         self.caught("depth", lambda figure, d: right(figure // d * d, d))
         self.caught("depth", lambda figure, d: min(right(figure, d), 255))
         self.caught("depth", lambda figure, d: right(min(figure + 1, 520 * d), d))
+
+    def test_rounding(self):
+        for rule in WRONG_RULES:
+            self.caught("rnd", rule)
 
     def test_table(self):
         for h in (1, 57, 200, 399):

@@ -190,19 +190,24 @@ def make_files():
 # ---------------------------------------------------------------- how many of each kind
 
 
+# the four places that round, by the function of reference.py that calls rnd or, for a loss, that calls loss
+PLACES = {"multiplier": "multiplier", "clear_below": "entry's loss", "forward": "forward pass", "backward": "correction"}
+
+
 class Halves:
-    """Notes, while in use, where rounded divisions fall on a half and on which side of zero."""
+    """Notes, while in use, where p/q falls on a half, whether |p| div |q| is odd or even, and the side of zero."""
 
     def __init__(self):
         self.places = set()
         self.plain = reference.rnd
 
     def rnd(self, p, q):
-        if 2 * abs(p) % (2 * abs(q)) == abs(q):
+        whole, rest = divmod(abs(p), abs(q))
+        if 2 * rest == abs(q):
             frame = sys._getframe(1)
             frame = frame.f_back if frame.f_code.co_name == "loss" else frame
-            side = "above" if (p < 0) == (q < 0) else "below"
-            self.places.add(f"half in {frame.f_code.co_name}, {side} zero")
+            parity, side = "odd" if whole % 2 else "even", "above" if (p < 0) == (q < 0) else "below"
+            self.places.add(f"half in {PLACES[frame.f_code.co_name]}, {parity}, {side} zero")
         return self.plain(p, q)
 
     def __enter__(self):

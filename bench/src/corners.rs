@@ -1,6 +1,6 @@
 //! Sound cases that chance would hardly find.
 
-use crate::coefficients::{coefficients, Style};
+use crate::coefficients::{coefficients, table, Style};
 use crate::figures::{moment, Figures, List, MOST_ANSWER, MOST_RIGHT_SIDE, MOST_ROUNDS};
 use crate::random::Random;
 use crate::twin::MOST_TANKS;
@@ -114,8 +114,8 @@ pub fn dependent_rows(figures: &mut Figures, random: &mut Random) {
     }
 }
 
-/// One tank a row, and an answer on a half: the rounds lead up and down between two figures. Their factors are equal or differ, or one of
-/// the two has none.
+/// Pairs of tanks whose rounds lead to and fro for ever between two answers, and single tanks with an answer on a half, which stays from the
+/// first round on. The two answers have equal factors or not, or one of the two has none.
 pub fn on_halves(figures: &mut Figures, random: &mut Random) {
     let n = figures.n;
     *figures = Figures {
@@ -123,14 +123,72 @@ pub fn on_halves(figures: &mut Figures, random: &mut Random) {
         rounds: figures.rounds,
         ..Figures::default()
     };
-    for i in 0..n {
-        let half = random.between(1, 9);
-        figures.coefficients[i][i] = 2 * half * random.pick(&[1, -1]);
-        figures.right_sides[i] = half * random.pick(&[1, 1, -1, 3, 5, -7]);
-        figures.tolerances[i][random.below(n)] = random.between(0, 2);
-        figures.right_tolerances[i] = random.pick(&[0, 1, 2]);
-        figures.trial[i] = random.within(4);
+    let (least, most) = random.pick(&[(0, 0), (0, 2), (1, 1)]);
+    let mut i = 0;
+    while i < n {
+        let paired = i + 1 < n && !random.one_in(4);
+        let count = if paired { 2 } else { 1 };
+        if paired {
+            to_and_fro(figures, i, random);
+        } else {
+            on_a_half(figures, i, random);
+        }
+        for row in i..i + count {
+            figures.tolerances[row][i + random.below(count)] = random.between(least, most);
+            figures.right_tolerances[row] = random.between(1, 2);
+            figures.trial[row] = random.within(4);
+        }
+        i += count;
     }
+    // Only without a tolerance of its right side can a row have no factor.
+    if random.one_in(2) {
+        figures.right_tolerances[random.below(n)] = 0;
+    }
+}
+
+/// Row `i`: this tank alone, and an answer on a half.
+fn on_a_half(figures: &mut Figures, i: usize, random: &mut Random) {
+    let half = random.between(1, 9);
+    figures.coefficients[i][i] = 2 * half * random.pick(&[1, -1]);
+    figures.right_sides[i] = half * random.pick(&[1, -1, 3, -3, 5, -7]);
+}
+
+/// Rows `i` and the next: 4 x + y is twice an odd number, or a multiple of both sides, and x is odd. The forward pass and x's correction
+/// fall on halves, so that x is even in each round and misses its row by 1, from either side in turn.
+fn to_and_fro(figures: &mut Figures, i: usize, random: &mut Random) {
+    let multiple = random.pick(&[1, 2, 4, 8]);
+    figures.coefficients[i][i] = 4 * multiple * random.pick(&[1, -1]);
+    figures.coefficients[i][i + 1] = multiple * random.pick(&[1, -1]);
+    figures.right_sides[i] = 2 * multiple * random.pick(&[1, -1, 3, -3, 5, -7]);
+    figures.coefficients[i + 1][i] = random.pick(&[1, -1]);
+    figures.right_sides[i + 1] = random.pick(&[1, 1, -1, -1, 3, -5]);
+}
+
+/// Multipliers, losses and the forward pass on halves. The first pivot is 16,384, so that the coefficients below it, which are odd, are the
+/// first multipliers. The first step's losses are these times multiples of 32, divided by 64, and the forward pass begins with them times
+/// multiples of 8,192, divided by 16,384. The second pivot is 2^15 as a working number, with odd ones below it, whose multipliers are on a
+/// half. The first step has no such multiplier, as no coefficient reaches 2^15.
+pub fn elimination_on_halves(figures: &mut Figures, random: &mut Random) {
+    let n = figures.n.max(3);
+    *figures = Figures {
+        n,
+        rounds: random.between(1, MOST_ROUNDS as i64) as usize,
+        coefficients: table(n, |_, _| random.within(99)),
+        right_sides: [(); MOST_TANKS].map(|_| 8192 * random.within(499)),
+        right_tolerances: figures.right_tolerances,
+        ..Figures::default()
+    };
+    figures.coefficients[0] = [(); MOST_TANKS].map(|_| 32 * random.within(9));
+    figures.coefficients[0][0] = 16_384 * random.pick(&[1, -1]);
+    figures.coefficients[0][1] = 64 * (2 * random.within(4) + 1);
+    figures.coefficients[1][0] = 0;
+    figures.coefficients[1][1] = 128 * random.pick(&[1, -1]);
+    for row in &mut figures.coefficients[2..n] {
+        row[0] = 2 * random.within(9) + 1;
+    }
+    let place = random.below(n);
+    figures.coefficients.swap(0, place);
+    figures.right_sides.swap(0, place);
 }
 
 fn rounded(value: f64) -> i64 {

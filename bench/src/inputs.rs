@@ -2,7 +2,8 @@
 
 use crate::coefficients::{coefficients, table, Style, STYLES};
 use crate::corners::{
-    dependent_rows, largest_correction, neighbouring_factors, on_halves, overshooting,
+    dependent_rows, elimination_on_halves, largest_correction, neighbouring_factors, on_halves,
+    overshooting,
 };
 use crate::entries::near_entries;
 use crate::figures::{
@@ -61,7 +62,8 @@ fn figures(random: &mut Random) -> Figures {
         8 => largest_correction(&mut figures, random),
         9..25 => fill_reference_tanks(&mut figures, random),
         25..29 => dependent_rows(&mut figures, random),
-        29..31 => on_halves(&mut figures, random),
+        29..33 => on_halves(&mut figures, random),
+        33..35 => elimination_on_halves(&mut figures, random),
         _ => {}
     }
     figures

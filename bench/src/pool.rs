@@ -12,7 +12,7 @@ pub const POOL_SIZE: usize = 256;
 pub const TANKS: [usize; 4] = [1, 2, 4, 8];
 pub const ROUNDS: [usize; 3] = [0, 1, 8];
 pub const SOUNDINGS_ROUNDS: [usize; 2] = [0, 1];
-/// One tank's answer never leaves two neighbouring figures, so that there is little to rank.
+/// One tank's answer stays from the first round on, so that there is nothing to rank.
 pub const RANKED_TANKS: [usize; 3] = [2, 4, 8];
 
 /// The length of a record's first field, which says how many rounds are used.

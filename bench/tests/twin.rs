@@ -1,4 +1,5 @@
-//! The twin against document 01's trials at the edges, document 02's reference tank and Matrix Market files, and the repository's samples.
+//! The twin against document 01's trials at the edges as document 02 leaves them, document 02's rounding of halves, reference tank and
+//! Matrix Market files, and the repository's samples.
 
 use bench::figures::Figures;
 use bench::twin::{check_case, judge_case, read_matrix, soundings, write_matrix};
@@ -71,15 +72,15 @@ fn one_tank(exponent: usize, rounds: usize, a: i64, e: i64, b: i64, f: i64, tria
     figures.encode()
 }
 
-/// Two tanks without tolerances and decimals, one round.
-fn two_tanks(rows: [[i64; 2]; 2], right_sides: [i64; 2]) -> Vec<u8> {
+/// Tanks without tolerances and decimals, one round.
+fn tanks<const N: usize>(rows: [[i64; N]; N], right_sides: [i64; N]) -> Vec<u8> {
     let mut figures = Figures {
-        n: 2,
+        n: N,
         rounds: 1,
         ..Figures::default()
     };
-    for i in 0..2 {
-        figures.coefficients[i][..2].copy_from_slice(&rows[i]);
+    for i in 0..N {
+        figures.coefficients[i][..N].copy_from_slice(&rows[i]);
         figures.right_sides[i] = right_sides[i];
     }
     figures.encode()
@@ -116,7 +117,7 @@ fn one_tank_worked_out() {
         ),
         (
             one_tank(0, 1, 2, 0, 1, 1, 0),
-            "met row 0 rounds 1\nanswer 1 1\nrow 1 residual -1 reach 1\nfactor row 1\n",
+            "met row 0 rounds 1\nanswer 1 0\nrow 1 residual 1 reach 1\nfactor row 1\n",
         ),
     ]);
 }
@@ -148,18 +149,55 @@ fn one_tank_refused() {
 fn two_tank_trials() {
     for (case, expected) in [
         (
-            two_tanks([[0, 1], [1, 0]], [5, 7]),
+            tanks([[0, 1], [1, 0]], [5, 7]),
             "met row 0 rounds 1\nanswer 1 7\nanswer 2 5\n",
         ),
         (
-            two_tanks([[2, 1], [1, 3]], [5, 10]),
+            tanks([[2, 1], [1, 3]], [5, 10]),
             "met row 0 rounds 1\nanswer 1 1\nanswer 2 3\n",
         ),
     ] {
         let rows = "row 1 residual 0 reach 0\nrow 2 residual 0 reach 0\nfactor row 1\n";
         assert_eq!(printed(&case), expected.to_string() + rows);
     }
-    assert_eq!(printed(&two_tanks([[1, 1], [1, 1]], [5, 7])), "refused 8\n");
+    assert_eq!(printed(&tanks([[1, 1], [1, 1]], [5, 7])), "refused 8\n");
+}
+
+#[test]
+fn halves_in_each_place() {
+    for (halves, even) in [(1, 0), (3, 2), (5, 2), (7, 4)] {
+        check_halves(halves, even);
+        check_halves(-halves, -even);
+    }
+}
+
+/// So many halves in each of the four places that round, where another whole number than this would lead to another answer.
+fn check_halves(halves: i64, even: i64) {
+    let check = |case: Vec<u8>, answers: String| {
+        let text = printed(&case);
+        assert!(text.contains(&answers), "{halves} halves: {text}");
+    };
+    // the correction of tank 1, and the forward pass, which tank 2 shows
+    check(
+        tanks([[16_384, 0], [1, 1]], [8_192 * halves, 0]),
+        format!("answer 1 {even}\nanswer 2 {}\n", -even),
+    );
+    // the multiplier of the second step, which takes twice itself from the third row
+    check(
+        tanks(
+            [[16_384, 64, 0], [0, 128, 0], [-halves, 0, 1]],
+            [0, 32_768, 0],
+        ),
+        format!("answer 1 -1\nanswer 2 256\nanswer 3 {}\n", -2 * even),
+    );
+    // what the last entry loses, which is all that is left as the second pivot
+    check(
+        tanks([[16_384, 32 * halves], [1, 0]], [0, even]),
+        match even {
+            0 => "refused 8\n".to_string(),
+            _ => format!("answer 1 {even}\nanswer 2 -256\n"),
+        },
+    );
 }
 
 #[test]
@@ -179,42 +217,104 @@ fn the_largest_correction_is_allowed() {
     assert!(printed(&figures.encode()).contains("rounds 1\nanswer 1 -7294331\nanswer 2 10000000\n"));
 }
 
-/// One tank whose answer is on a half, so that rounds lead up and down for ever.
+/// The even figure is taken in the first round, and a correction of one half is none.
 #[test]
-fn the_first_of_equals_is_kept_and_one_with_a_factor() {
-    for rounds in 1..=8 {
-        for (e, b, f, expected) in [
-            (
-                0,
-                9,
-                1,
-                "answer 1 2\nrow 1 residual -3 reach 1\nfactor row 1\n",
-            ),
-            (
-                1,
-                9,
-                0,
-                "answer 1 2\nrow 1 residual -3 reach 2\nfactor row 1\n",
-            ),
-            (
-                1,
-                3,
-                0,
-                "answer 1 1\nrow 1 residual -3 reach 1\nfactor row 1\n",
-            ),
-            (
-                0,
-                3,
-                0,
-                "answer 1 1\nrow 1 residual -3 reach 0\nfactor none row 1\n",
-            ),
-        ] {
-            let case = one_tank(0, rounds, 6, e, b, f, 0);
+fn one_tank_on_a_half_stays() {
+    for (a, b, y, residual) in [
+        (6, 3, 0, 3),
+        (6, 9, 2, -3),
+        (6, 15, 2, 3),
+        (6, 21, 4, -3),
+        (6, -3, 0, -3),
+        (6, -9, -2, 3),
+        (6, -15, -2, -3),
+        (-6, 3, 0, 3),
+        (-6, 9, -2, -3),
+        (-6, -9, 2, 3),
+        (-6, -15, 2, -3),
+    ] {
+        for rounds in 1..=8 {
             assert_eq!(
-                printed(&case),
-                format!("unmet row 1 rounds {rounds}\n{expected}")
+                printed(&one_tank(0, rounds, a, 0, b, 0, 0)),
+                format!(
+                    "unmet row 1 rounds {rounds}\nanswer 1 {y}\n\
+                     row 1 residual {residual} reach 0\nfactor none row 1\n"
+                )
             );
         }
+    }
+}
+
+/// Two tanks whose rounds lead to and fro for ever between two answers, by halves in the forward pass and in the correction. Row 2 is met by
+/// both, and row 1 by neither.
+fn to_and_fro(rounds: usize, second_right_side: i64, e: i64, f: i64) -> Vec<u8> {
+    let mut figures = Figures {
+        n: 2,
+        rounds,
+        ..Figures::default()
+    };
+    figures.coefficients[0][..2].copy_from_slice(&[8, 2]);
+    figures.coefficients[1][..2].copy_from_slice(&[1, 0]);
+    figures.tolerances[0][0] = e;
+    figures.right_sides[..2].copy_from_slice(&[4, second_right_side]);
+    figures.right_tolerances[..2].copy_from_slice(&[f, 1]);
+    figures.encode()
+}
+
+#[test]
+fn the_first_of_equals_is_kept_and_one_with_a_factor() {
+    // in turn with 0 and 0
+    let first = "answer 1 2\nanswer 2 -4\nrow 1 residual -4 reach ";
+    // in turn with each other
+    let zero_first = "answer 1 0\nanswer 2 4\nrow 1 residual -4 reach ";
+    let second = "answer 1 -2\nanswer 2 8\nrow 1 residual 4 reach ";
+    // the factors are 4 and 4; 4/3 and 4; 2 and none; none and none; and then the same with the middle ones turned round
+    for (b, e, f, kept, reach, from_round) in [
+        (1, 0, 1, first, 1, 1),
+        (1, 1, 1, first, 3, 1),
+        (1, 1, 0, first, 2, 1),
+        (1, 0, 0, first, 0, 1),
+        (-1, 0, 1, zero_first, 1, 1),
+        (-1, 1, 1, second, 3, 2),
+        (-1, 1, 0, second, 2, 2),
+        (-1, 0, 0, zero_first, 0, 1),
+    ] {
+        let none = if reach == 0 { "none " } else { "" };
+        for rounds in from_round..=8 {
+            let text = printed(&to_and_fro(rounds, b, e, f));
+            let lines = format!("unmet row 1 rounds {rounds}\n{kept}{reach}\n");
+            assert!(text.starts_with(&lines), "{text}");
+            assert!(text.ends_with(&format!("factor {none}row 1\n")), "{text}");
+        }
+    }
+    for (f, last_line) in [(0, "factor none row 1\n"), (1, "factor row 1\n")] {
+        let text = printed(&to_and_fro(1, -1, 1, f));
+        assert!(text.contains(zero_first) && text.ends_with(last_line));
+    }
+}
+
+#[test]
+fn the_first_of_equals_behind_a_worse_one() {
+    let mut figures = Figures {
+        n: 2,
+        right_tolerances: [1; MOST_TANKS],
+        ..Figures::default()
+    };
+    figures.coefficients[0][..2].copy_from_slice(&[2, -3]);
+    figures.coefficients[1][..2].copy_from_slice(&[4, 1]);
+    figures.right_sides[1] = 3;
+    // the factors are 3, 2, 2, and 2 for ever, and the answers from round 2 on are 1 and 0, and 1 and 1, in turn
+    for rounds in 1..=8 {
+        figures.rounds = rounds;
+        let expected = if rounds == 1 {
+            "answer 1 0\nanswer 2 1\nrow 1 residual 3 reach 1\nrow 2 residual 2 reach 1\n"
+        } else {
+            "answer 1 1\nanswer 2 0\nrow 1 residual -2 reach 1\nrow 2 residual -1 reach 1\n"
+        };
+        assert_eq!(
+            printed(&figures.encode()),
+            format!("unmet row 1 rounds {rounds}\n{expected}factor row 1\n")
+        );
     }
 }
 
@@ -256,9 +356,8 @@ fn a_trial_without_a_factor_is_replaced() {
     figures.right_sides[..2].copy_from_slice(&[9, 6]);
     for (rounds, expected) in [
         (1, "answer 1 1\nanswer 2 6\n"),
-        (2, "answer 1 1\nanswer 2 6\n"),
+        (2, "answer 1 1\nanswer 2 7\n"),
         (3, "answer 1 1\nanswer 2 7\n"),
-        (4, "answer 1 1\nanswer 2 7\n"),
     ] {
         figures.rounds = rounds;
         let text = printed(&figures.encode());
@@ -442,7 +541,7 @@ fn depths_at_the_edges() {
 
 #[test]
 fn depths_of_an_answer_worked_out() {
-    assert_eq!(depths(&two_tanks([[0, 1], [1, 0]], [5, 7])), Ok(vec![7, 5]));
+    assert_eq!(depths(&tanks([[0, 1], [1, 0]], [5, 7])), Ok(vec![7, 5]));
     // not met, and the answer is 0.3 or 333.3 tonnes all the same
     assert_eq!(depths(&one_tank(1, 1, 3, 0, 1, 0, 0)), Ok(vec![0]));
     assert_eq!(depths(&one_tank(1, 1, 3, 0, 1000, 0, 0)), Ok(vec![281]));
@@ -470,7 +569,7 @@ fn soundings_are_refused_in_order() {
         (cut.to_vec(), 5),
         (brought(0, &[-10_000_001]), 6),
         (longer, 7),
-        (two_tanks([[1, 1], [1, 1]], [5, 7]), 8),
+        (tanks([[1, 1], [1, 1]], [5, 7]), 8),
         (one_tank(0, 1, 1, 0, 1_000_000_000, 0, 0), 9),
         (outside, 10),
     ] {

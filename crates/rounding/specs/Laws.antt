@@ -1,22 +1,27 @@
--- What a caller may use of `rnd`. All of it rests on the laws beside the rule for halves, and none of it on the rule but `rnd-half`. Assumes nothing.
-use Prim.Native.Nat.{ℕ, zero, suc, _+_, _*_, _/_, _%_, _^_, _<_, _≤_}
-use lib.Dec.{leb·suc-zero}
-use lib.IntN.{ℤ, pos, negsuc, negℤ, natAbs, _-ℤ_, _*ℤ_, *ℤ-zero, negℤ-negℤ}
+-- What a caller may use of `rnd`. All of it rests on the laws beside the rule for halves, and none of it on the rule but `rnd-half`, `rnd-mono` and
+-- `rnd-scale`. Assumes nothing.
+use Prim.Native.Nat.{ℕ, zero, suc, _+_, _*_, _-_, _/_, _%_, _^_, _<_, _≤_}
+use borrow.Author.Tests.{ltb-true, ltb-false}
+use lib.Dec.{ltb, leb·suc-zero}
+use lib.IntN.{ℤ, pos, negsuc, negℤ, natAbs, _+ℤ_, _-ℤ_, _*ℤ_, *ℤ-zero, negℤ-negℤ}
 use lib.Signed.{ltZ}
 use mathlib.Core.Bool.{Bool, true, false, cond}
 use mathlib.Core.Path.{_≡_, refl, sym, ap, _∙_}
 use native.Mathlib.Decide.{decLt}
-use native.Mathlib.Nat.{le-antisymm, mul-le-mul-left, div-add-mod', mod-lt}
+use native.Mathlib.Nat.{le-antisymm, mul-le-mul-left, le-of-mul-le-mul-left, mul-pos, div-add-mod', mod-lt}
 use native.Mathlib.Omega.{arith}
+use Rattle.integers.specs.Diff.{add-parts, neg-parts}
+use Rattle.integers.specs.Order.{ints}
 use Rattle.integers.specs.Ring.{negℤ-*ℤ, *ℤ-negℤ, negℤ-*ℤ-negℤ}
 use Rattle.integers.specs.Sign.{turned}
 use Rattle.integers.specs.Size.{natAbs-negℤ, turned-near, sfits-size}
-use Rattle.rounding.specs.Half.{roundsUp, withHalf}
-use Rattle.rounding.specs.HalfLaws.{half-away, up-half, stays-half, half-carries}
+use Rattle.rounding.specs.Half.{roundsUp, floorByScale, remainderByScale, halfByScale, withHalf}
+use Rattle.rounding.specs.HalfLaws.{half-even, up-half, stays-half, carries-above, carries-below}
 use Rattle.rounding.specs.Round.{near, rnd, Defined}
 use Rattle.rounding.specs.Scale.{multiplierScale}
+use Rattle.rounding.specs.TiesToEven.{Even}
 
--- ---- of naturals: near-by-half half of the divisor
+-- ---- of naturals: within half of the divisor
 
 -- with the quotient d and the remainder r of a by b
 near-by-half : (a b d r : ℕ) (up : Bool) → d * b + r ≡ a → r < b → (up ≡ true → b ≤ 2 * r) → (up ≡ false → 2 * r ≤ b)
@@ -87,28 +92,28 @@ rnd-by-neg (negsuc a) (pos zero) =
 rnd-by-neg (negsuc a) (pos (suc b)) = sym (negℤ-negℤ (pos (near (suc a) (suc b))))
 rnd-by-neg (negsuc a) (negsuc b) = refl
 
--- ---- "a half goes away from zero, on both sides of zero"
+-- ---- "a half to the even neighbour"
 
-near-half : (a b : ℕ) → 0 < b → 2 * (a % b) ≡ b → near a b ≡ a / b + 1
+near-half : (a b : ℕ) → 0 < b → 2 * (a % b) ≡ b → near a b % 2 ≡ 0
 unfolding near
 near-half a zero h e = absurd (omega arith)
-near-half a (suc b) h e = rw (half-away (a / suc b) (a % suc b) (suc b) e)
+near-half a (suc b) h e = half-even (a / suc b) (a % suc b) (suc b) e
 
--- zero leaves no half
-half-of-none : (b : ℕ) → 2 * (0 % suc b) ≡ suc b → ⊥
-half-of-none b e = omega (arith, div-add-mod' 0 (suc b))
+-- what is half of the divisor away from its dividend is of a half
+pub near-even : (a b : ℕ) → 0 < b → 2 * (b * near a b - a + (a - b * near a b)) ≡ b → near a b % 2 ≡ 0
+unfolding near
+near-even a zero h e = absurd (omega arith)
+near-even a (suc b) h e =
+    near-half a (suc b) h (go (roundsUp (a / suc b) (a % suc b) (suc b)) (a / suc b) (a % suc b) (div-add-mod' a (suc b)) (mod-lt a h) e)
+  where
+    go : (up : Bool) (d r : ℕ) → d * suc b + r ≡ a → r < suc b
+        → 2 * (suc b * (d + cond up 1 0) - a + (a - suc b * (d + cond up 1 0))) ≡ suc b → 2 * r ≡ suc b
+    go true d r f l k = omega arith
+    go false d r f l k = omega arith
 
--- the magnitude is the next one up, with the sign of p / q
-pub rnd-half : (p q : ℤ) → 0 < natAbs q → 2 * (natAbs p % natAbs q) ≡ natAbs q
-    → rnd p q ≡ turned q (turned p (pos (natAbs p / natAbs q + 1)))
-unfolding rnd
-rnd-half p (pos zero) h e = absurd (omega arith)
-rnd-half (pos zero) (pos (suc b)) h e = absurd (half-of-none b e)
-rnd-half (pos zero) (negsuc b) h e = absurd (half-of-none b e)
-rnd-half (pos (suc a)) (pos (suc b)) h e = ap pos (near-half (suc a) (suc b) h e)
-rnd-half (pos (suc a)) (negsuc b) h e = ap (λ (m : ℕ). negℤ (pos m)) (near-half (suc a) (suc b) h e)
-rnd-half (negsuc a) (pos (suc b)) h e = ap (λ (m : ℕ). negℤ (pos m)) (near-half (suc a) (suc b) h e)
-rnd-half (negsuc a) (negsuc b) h e = ap pos (near-half (suc a) (suc b) h e) ∙ sym (negℤ-negℤ (pos (suc a / suc b + 1)))
+-- where q is not 0 and p / q is a half, on either side of zero
+pub rnd-half : (p q : ℤ) → 0 < natAbs q → 2 * (natAbs p % natAbs q) ≡ natAbs q → Even (rnd p q)
+rnd-half p q h e = rw (abs-rnd p q) (near-half (natAbs p) (natAbs q) h e)
 
 -- ---- the laws of a nearest whole number
 
@@ -116,7 +121,27 @@ rnd-half (negsuc a) (negsuc b) h e = ap pos (near-half (suc a) (suc b) h e) ∙ 
 pub rnd-le : (p q : ℤ) (m : ℕ) → natAbs p ≤ m * natAbs q → natAbs (rnd p q) ≤ m
 rnd-le p q m h = rw (abs-rnd p q) (near-le (natAbs p) (natAbs q) m h)
 
-mul-rnd : (p q : ℤ) → q *ℤ rnd p q ≡ turned p (pos (natAbs q * near (natAbs p) (natAbs q)))
+near-mono : (a b c d : ℕ) → 0 < b → 0 < d → a * d ≤ c * b → near a b ≤ near c d
+near-mono a b c d hb hd h = go (decLt (near c d) (near a b))
+  where
+    go : Dec (near c d < near a b) → near a b ≤ near c d
+    go (yes l) =
+        let u = near-within a b hb in
+        let v = near-within c d hd in
+        let p = mul-le-mul-left d (u .0) in
+        let q = mul-le-mul-left b (v .1) in
+        let r = mul-le-mul-left (b * d) l in
+        let first : 2 * a + b ≤ 2 * (b * near a b) = le-of-mul-le-mul-left {k = d} (omega (arith, p, q, r)) hd in
+        let second : 2 * (d * near c d) + d ≤ 2 * c = le-of-mul-le-mul-left {k = b} (omega (arith, p, q, r)) hb in
+        let next : near a b ≤ suc (near c d) = le-of-mul-le-mul-left {k = b * d} (omega (arith, p, q, r)) (mul-pos hb hd) in
+        absurd (omega (arith, near-even a b hb (omega (arith, u .0)), near-even c d hd (omega (arith, v .1))))
+    go (no l) = omega arith
+
+-- monotone in size: a larger quotient has no smaller result
+pub rnd-mono : (p q r s : ℤ) → 0 < natAbs q → 0 < natAbs s → natAbs p * natAbs s ≤ natAbs r * natAbs q → natAbs (rnd p q) ≤ natAbs (rnd r s)
+rnd-mono p q r s h k l = rw (abs-rnd p q, abs-rnd r s) (near-mono (natAbs p) (natAbs q) (natAbs r) (natAbs s) h k l)
+
+pub mul-rnd : (p q : ℤ) → q *ℤ rnd p q ≡ turned p (pos (natAbs q * near (natAbs p) (natAbs q)))
 unfolding rnd
 mul-rnd (pos zero) q = ap (λ (x : ℤ). q *ℤ x) (rnd-zero q) ∙ *ℤ-zero q
 mul-rnd (pos (suc a)) (pos b) = refl
@@ -124,7 +149,7 @@ mul-rnd (pos (suc a)) (negsuc b) = negℤ-*ℤ-negℤ (pos (suc b)) (pos (near (
 mul-rnd (negsuc a) (pos b) = *ℤ-negℤ (pos b) (pos (near (suc a) b))
 mul-rnd (negsuc a) (negsuc b) = refl
 
--- q rnd(p/q) is near-by-half half of q from p
+-- q rnd(p/q) is within half of q from p
 pub rnd-near : (p q : ℤ) → 0 < natAbs q → 2 * natAbs (q *ℤ rnd p q -ℤ p) ≤ natAbs q
 rnd-near p q h =
     let w = near-within (natAbs p) (natAbs q) h in
@@ -169,11 +194,40 @@ defined p q h k =
       fits = sfits-size (omega (arith, rnd-le p q (natAbs p) (omega (arith, mul-le-mul-left (natAbs p) k))));
     }
 
--- ---- by the multipliers' scale, whose half is whole
+-- ---- by the multipliers' scale
 
-near-scale : (a : ℕ) → near a multiplierScale ≡ withHalf a / multiplierScale
-unfolding near
-near-scale a = sym (half-carries a)
+-- a floor quotient below zero, k added to a negative number
+floor-below : (a k : ℕ) → k < multiplierScale
+    → floorByScale (negsuc a +ℤ pos k) ≡ negℤ (pos ((suc a + (multiplierScale - 1) - k) / multiplierScale))
+floor-below a k h = go (ltb k (suc a)) refl
+  where
+    go : (b : Bool) → ltb k (suc a) ≡ b
+        → floorByScale (cond b (negsuc (suc a - suc k)) (pos (k - suc a))) ≡ negℤ (pos ((suc a + (multiplierScale - 1) - k) / multiplierScale))
+    go true t =
+        let l : k < suc a = ltb-true k (suc a) t in
+        let e : (suc a + (multiplierScale - 1) - k) / multiplierScale ≡ suc ((suc a - suc k) / multiplierScale) = omega arith in
+        rw e
+    go false t =
+        let l : suc a ≤ k = ltb-false k (suc a) t in
+        let e : (suc a + (multiplierScale - 1) - k) / multiplierScale ≡ 0 = omega arith in
+        let f : (k - suc a) / multiplierScale ≡ 0 = omega arith in
+        rw (e, f)
 
-pub rnd-scale : (p : ℤ) → rnd p (pos multiplierScale) ≡ cond (ltZ p (pos 0)) (negℤ (pos (withHalf (natAbs p) / multiplierScale))) (pos (withHalf (natAbs p) / multiplierScale))
-rnd-scale p = rw (← near-scale (natAbs p)) (rnd-signs p (pos multiplierScale))
+-- p + 8,191 + the last bit of the floor quotient, shifted, is the rule on both sides of zero
+pub rnd-scale : (p : ℤ) → rnd p (pos multiplierScale) ≡ floorByScale (withHalf p)
+unfolding rnd near
+rnd-scale (pos a) = ap pos (sym (carries-above a))
+rnd-scale (negsuc a) =
+    ap (λ (m : ℕ). negℤ (pos m)) (carries-below a) ∙ sym (floor-below a (halfByScale (negsuc a)) (omega arith))
+
+-- the same with the multiple of the scale set aside, which fits wherever p does
+pub rnd-scale-parts : (p : ℤ) → rnd p (pos multiplierScale) ≡ floorByScale p +ℤ pos ((remainderByScale p + halfByScale p) / multiplierScale)
+rnd-scale-parts (pos a) = rnd-scale (pos a) ∙ ap pos (omega arith)
+rnd-scale-parts (negsuc a) =
+    let k = halfByScale (negsuc a) in
+    let m = (suc a + (multiplierScale - 1) - k) / multiplierScale in
+    let t = (remainderByScale (negsuc a) + k) / multiplierScale in
+    let e : m + t ≡ suc (a / multiplierScale) = omega arith in
+    rnd-scale (negsuc a)
+    ∙ floor-below a k (omega arith)
+    ∙ omega (arith, ints, neg-parts (pos m), add-parts (negsuc (a / multiplierScale)) (pos t))

@@ -1,8 +1,8 @@
 // Rounded division of signed numbers.
 ghost use Prim.Native.Nat.{_<_, _≤_, _^_};
-ghost use lib.IntN.{pos, negℤ};
+ghost use lib.IntN.{pos, negℤ, natAbs};
 ghost use mathlib.Core.Path.{_≡_};
-ghost use Rattle.rounding.specs.Half.{roundsUp};
+ghost use Rattle.rounding.specs.Half.{lastBit, roundsUp};
 ghost use Rattle.rounding.specs.Round.{near, rnd, Defined};
 ghost use Rattle.rounding.specs.Scale.{multiplierScale};
 
@@ -11,7 +11,7 @@ fn rounds_up(quotient: u64, remainder: u64, divisor: u64) -> bool
     requires { ⌜ remainder < divisor ⌝ }
     ensures { λ r. ⌜ r ≡ roundsUp quotient remainder divisor ⌝ }
 {
-    divisor - remainder <= remainder
+    divisor - remainder < remainder + quotient % 2
 }
 
 // The nearest whole number to a / b, of naturals.
@@ -46,15 +46,28 @@ pub fn rounded_quotient(p: i64, q: i64) -> i64
     }
 }
 
-// The scale of the multipliers, and its half.
+// The scale of the multipliers; its last bits, which are what a number has above a multiple of it; and one less than its half.
 pub const MULTIPLIER_SCALE: u64 = 16384;
 
-const HALF_SCALE: u64 = MULTIPLIER_SCALE / 2;
+const SCALE_BITS: i64 = 14;
 
-// rnd(p / 16,384), by the scale of the multipliers, for any p: half of it is added to the magnitude, and no remainder has to be looked at.
+const SCALE_MASK: i64 = MULTIPLIER_SCALE as i64 - 1;
+
+const BELOW_HALF: i64 = MULTIPLIER_SCALE as i64 / 2 - 1;
+
+// The last binary digit, on both sides of zero.
+fn last_bit(z: i64) -> i64
+    ensures { λ r. ⌜ r ≡ pos (lastBit (natAbs z)) ⌝ }
+{
+    z & 1
+}
+
+// rnd(p / 16,384), by the scale of the multipliers, for any p: p + 8,191 + the last bit of the floor quotient, shifted, is the rule on both sides
+// of zero. The multiple of the scale in p stands aside while the remainder is shifted, so that the sum fits also where p is near the last number.
 pub fn rounded_by_scale(p: i64) -> i64
     ensures { λ r. ⌜ r ≡ rnd p (pos multiplierScale) ⌝ }
 {
-    let m = (integers::magnitude(p) + HALF_SCALE) / MULTIPLIER_SCALE;
-    if p < 0 { negated(m) } else { m as i64 }
+    let quotient = p >> SCALE_BITS;
+    let remainder = p & SCALE_MASK;
+    quotient + ((remainder + BELOW_HALF + last_bit(quotient)) >> SCALE_BITS)
 }

@@ -88,12 +88,12 @@ negativeBoth =
       expected = whereMet 1 (negsuc 2 ∷ []) (negsuc 0 ∷ []) (13 ∷ []) (ratio 1 13) 1;
     }
 
--- "A 2, b 1, E 0, f 1, K 1: Y 1, R −1, T 1, met."
+-- "A 2, b 1, E 0, f 1, K 1": since halves go to the even number "Y 0, R 1, T 1, still met" (document 02, "Five")
 abbrev half : MarkedTrial
 half =
     record {
       case = oneTank 0 1 (pos 2) 0 (pos 1) 1 [];
-      expected = whereMet 1 (pos 1 ∷ []) (negsuc 0 ∷ []) (1 ∷ []) (ratio 1 1) 1;
+      expected = whereMet 1 (pos 0 ∷ []) (pos 1 ∷ []) (1 ∷ []) (ratio 1 1) 1;
     }
 
 -- "A 2, b 4, E 1, f 0, trial 1: R 2, T 1, not met, factor 2."
