@@ -89,6 +89,7 @@ int64_t ballast_check_case(const uint8_t *input, size_t input_length);
  * record's length, 20 + 20 n. "Met" in the record means that figures within the case's tolerances balance exactly with that answer, "not
  * met" that none do. Of the rounds' answers the first that is met is taken, and rounds used is its round; where none is met, the one with the
  * least factor, the earliest of equals, and one without a factor only where none has one; rounds used is then the case's number of rounds.
+ * Quotients of the rounds' steps are rounded to the nearest whole number, a half to the even one; nothing of the verdict is rounded.
  * Refuses with -1 an out shorter than BALLAST_RECORD_ROOM, then with -2 to -9. */
 int64_t ballast_judge_case(const uint8_t *input, size_t input_length, uint8_t *out, size_t out_length);
 

@@ -1,6 +1,4 @@
 -- `rounding::last_bit` meets its contract: the bits of a number below zero end as its magnitude does. Assumes nothing.
-use Prim.Native.Nat.{_%_}
-use borrow.Author.Needs.{needs}
 use lib.Bits.{bitAnd, and-mask}
 use lib.IntN.{ℤ, pos, negsuc, natAbs}
 use mathlib.Core.Path.{_≡_, ap, _∙_}

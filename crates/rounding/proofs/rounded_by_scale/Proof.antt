@@ -1,6 +1,6 @@
 -- `rounding::rounded_by_scale` meets its contract: the shift is the floor quotient, and the masks are the remainder and the last bit, on both
 -- sides of zero. Assumes nothing.
-use Prim.Native.Nat.{ℕ, suc, _+_, _-_, _/_, _%_, _≤_, _<_, _^_}
+use Prim.Native.Nat.{_+_, _/_, _<_, _^_}
 use borrow.Author.Needs.{needs}
 use lib.Bits.{bitAnd, and-mask}
 use lib.IntN.{ℤ, pos, negsuc, natAbs, _+ℤ_}

@@ -1,5 +1,4 @@
 -- `rounding::rounds_up` meets its contract: it is the test of the rule for halves. Assumes nothing.
-use Prim.Native.Nat.{_%_}
 use borrow.Author.Needs.{needs}
 use mathlib.Core.Path.{refl}
 use native.Mathlib.Omega.{arith}
