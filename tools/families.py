@@ -1008,7 +1008,7 @@ WANTED_IN_TURN = {
 
 
 def trials_in_turn():
-    """Answers and factors that come and go in turn; halves brought them when these went up and down."""
+    """Answers and factors that come and go in turn, as answers on a half brought them under the rule before."""
     stream, inputs = Stream(17), []
     for n in range(2, 9):
         inputs += looked_for(stream, n, WANTED_IN_TURN, 900, (alternating, equal_in_turn))

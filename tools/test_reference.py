@@ -1322,7 +1322,7 @@ def even_above_zero(p, q):
 
 
 def upward(p, q):
-    """"Rounding by adding half and dividing downward, which is wrong below zero." """
+    """"Rounding by adding half and dividing downward": a half goes up, on both sides of zero."""
     return (2 * p + q) // (2 * q)
 
 

@@ -1,4 +1,4 @@
--- Laws of the rule for halves. No other file unfolds the rule, but for examples that compute: the laws of a nearest whole number rest on `up-half` and
+-- Laws of the rule for halves. No other file unfolds the rule, but for its code's proof and for examples that compute: the laws of a nearest whole number rest on `up-half` and
 -- `stays-half`, those of the scale on `carries-above` and `carries-below`, those of a half on `half-even`. Assumes nothing.
 use Prim.Native.Nat.{ℕ, suc, _+_, _*_, _-_, _/_, _%_, _≤_, _<_}
 use borrow.Author.Tests.{ltb-true, ltb-false}
@@ -62,7 +62,7 @@ pub carries-below : (a : ℕ) → suc a / multiplierScale + carryByScale (suc a)
 carries-below a =
     go (roundsUp (suc a / multiplierScale) (suc a % multiplierScale) multiplierScale) refl (decLt (suc (a % multiplierScale)) multiplierScale)
   where
-    -- the floor quotient below zero is that of a: one less where suc a is a multiple
+    -- a / 16,384 is suc a / 16,384, or one less where suc a is a multiple
     go : (up : Bool) → roundsUp (suc a / multiplierScale) (suc a % multiplierScale) multiplierScale ≡ up
         → Dec (suc (a % multiplierScale) < multiplierScale)
         → suc a / multiplierScale + cond up 1 0 ≡ (suc a + (multiplierScale - 1) - halfByScale (negsuc a)) / multiplierScale

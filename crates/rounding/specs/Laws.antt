@@ -1,5 +1,5 @@
--- What a caller may use of `rnd`. All of it rests on the laws beside the rule for halves, and none of it on the rule but `rnd-half`, `rnd-mono` and
--- `rnd-scale`. Assumes nothing.
+-- What a caller may use of `rnd`. All of it rests on the laws beside the rule for halves, and none of it on the rule but `near-even`, `rnd-half`,
+-- `rnd-mono`, `rnd-scale` and `rnd-scale-parts`. Assumes nothing.
 use Prim.Native.Nat.{ℕ, zero, suc, _+_, _*_, _-_, _/_, _%_, _^_, _<_, _≤_}
 use borrow.Author.Tests.{ltb-true, ltb-false}
 use lib.Dec.{ltb, leb·suc-zero}
@@ -69,7 +69,7 @@ unfolding rnd
 rnd-zero (pos b) = ap pos (near-zero b)
 rnd-zero (negsuc b) = ap (λ (n : ℕ). negℤ (pos n)) (near-zero (suc b))
 
-near-none : (a : ℕ) → near a 0 ≡ 0
+pub near-none : (a : ℕ) → near a 0 ≡ 0
 unfolding near
 near-none a = refl
 
@@ -99,7 +99,7 @@ unfolding near
 near-half a zero h e = absurd (omega arith)
 near-half a (suc b) h e = half-even (a / suc b) (a % suc b) (suc b) e
 
--- what is half of the divisor away from its dividend is of a half
+-- where b × near a b is half of b away from a, a / b is a half
 pub near-even : (a b : ℕ) → 0 < b → 2 * (b * near a b - a + (a - b * near a b)) ≡ b → near a b % 2 ≡ 0
 unfolding near
 near-even a zero h e = absurd (omega arith)
@@ -111,7 +111,7 @@ near-even a (suc b) h e =
     go true d r f l k = omega arith
     go false d r f l k = omega arith
 
--- where q is not 0 and p / q is a half, on either side of zero
+-- where q is not 0 and p / q is a half, on either side of zero, the result is even
 pub rnd-half : (p q : ℤ) → 0 < natAbs q → 2 * (natAbs p % natAbs q) ≡ natAbs q → Even (rnd p q)
 rnd-half p q h e = rw (abs-rnd p q) (near-half (natAbs p) (natAbs q) h e)
 

@@ -9,7 +9,7 @@ use Rattle.integers.specs.Diff.{ring, quote, vars, sub-parts, size-parts, neg-p
 use Rattle.integers.specs.Order.{ints}
 use Rattle.integers.specs.Size.{natAbs-*ℤ, natAbs-subℤ, natAbs-zero}
 use Rattle.integers.specs.Sign.{turned}
-use Rattle.rounding.specs.Laws.{abs-rnd, rnd-near, mul-rnd, near-even}
+use Rattle.rounding.specs.Laws.{abs-rnd, near-none, rnd-near, mul-rnd, near-even}
 use Rattle.rounding.specs.Round.{near, rnd}
 use Rattle.rounding.specs.TiesToEven.{Even, distance, TiesToEven}
 
@@ -56,15 +56,36 @@ half-distance p q h e =
 even-apart : (y z : ℤ) → Even y → Even z → natAbs (y -ℤ z) % 2 ≡ 0
 even-apart y z h k = omega (arith, sub-parts y z, size-parts (y -ℤ z), size-parts y, size-parts z)
 
--- IEEE 754's default: `rnd` is the nearest whole number, and of two equally near ones the even one
-pub rnd-ties-to-even : (p q : ℤ) → 0 < natAbs q → TiesToEven p q (rnd p q)
-rnd-ties-to-even p q h = record { nearest = rnd-nearest p q h; even-of-two = λ y o e. go y o e (natAbs (y -ℤ rnd p q)) refl }
+quotient-ties-to-even : (p q : ℤ) → 0 < natAbs q → TiesToEven p q (rnd p q)
+quotient-ties-to-even p q h = record { nearest = rnd-nearest p q h; even-of-two = λ y o e. go y o e (natAbs (y -ℤ rnd p q)) refl }
   where
     go : (y : ℤ) → (y ≡ rnd p q → ⊥) → distance p q y ≡ distance p q (rnd p q) → (k : ℕ) → natAbs (y -ℤ rnd p q) ≡ k → Even (rnd p q)
     go y o e zero f = absurd (o (equal y (rnd p q) f))
     go y o e (suc k) f = half-distance p q h (omega (arith, other-distance p q y k h f, rnd-near p q h, e))
 
--- and no other whole number meets the rule's words
+-- by 0 every whole number is as near, and the result is 0
+by-zero : (p z : ℤ) → distance p (pos 0) z ≡ natAbs p
+by-zero p z =
+    omega (
+      arith,
+      natAbs-*ℤ (pos 0) z,
+      sub-parts (pos 0 *ℤ z) p,
+      size-parts (pos 0 *ℤ z -ℤ p),
+      size-parts (pos 0 *ℤ z),
+      size-parts p,
+    )
+
+-- IEEE 754's default: `rnd` is the nearest whole number, and of two equally near ones the even one
+pub rnd-ties-to-even : (p q : ℤ) → TiesToEven p q (rnd p q)
+rnd-ties-to-even p (pos zero) =
+    record {
+      nearest = λ y. omega (arith, by-zero p y, by-zero p (rnd p (pos 0)));
+      even-of-two = λ y o e. omega (arith, abs-rnd p (pos 0), near-none (natAbs p));
+    }
+rnd-ties-to-even p (pos (suc b)) = quotient-ties-to-even p (pos (suc b)) (omega arith)
+rnd-ties-to-even p (negsuc b) = quotient-ties-to-even p (negsuc b) (omega arith)
+
+-- and no other whole number meets the rule's words, where there is a quotient
 pub ties-to-even-unique : (p q z : ℤ) → 0 < natAbs q → TiesToEven p q z → z ≡ rnd p q
 ties-to-even-unique p q z h t = go (natAbs (z -ℤ rnd p q)) refl
   where

@@ -46,7 +46,7 @@ pub fn rounded_quotient(p: i64, q: i64) -> i64
     }
 }
 
-// The scale of the multipliers; its last bits, which are what a number has above a multiple of it; and one less than its half.
+// The scale of the multipliers, 2 to the power SCALE_BITS; the mask of the bits that a number has above a multiple of it; one less than its half.
 pub const MULTIPLIER_SCALE: u64 = 16384;
 
 const SCALE_BITS: i64 = 14;
@@ -63,7 +63,7 @@ fn last_bit(z: i64) -> i64
 }
 
 // rnd(p / 16,384), by the scale of the multipliers, for any p: p + 8,191 + the last bit of the floor quotient, shifted, is the rule on both sides
-// of zero. The multiple of the scale in p stands aside while the remainder is shifted, so that the sum fits also where p is near the last number.
+// of zero. The multiple of the scale in p stands aside while the remainder is shifted, so that the sum fits also where p is near the largest number.
 pub fn rounded_by_scale(p: i64) -> i64
     ensures { λ r. ⌜ r ≡ rnd p (pos multiplierScale) ⌝ }
 {
