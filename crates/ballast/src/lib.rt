@@ -1,4 +1,6 @@
 // The call that takes a case and a result buffer and leaves the record.
+#![tactic(auto)]
+
 ghost use Rattle.std.specs.Prelude.{pos, replicate};
 ghost use Rattle.limits.specs.Limits.{most_tanks};
 ghost use Rattle.judge.specs.System.{system};

@@ -1,4 +1,6 @@
 // What a program in C or Rust links: the calls on numbers and byte slices, each with one result number. `include/ballast.h` declares them.
+#![tactic(auto)]
+
 ghost use Rattle.std.specs.Prelude.{◌≡◌};
 ghost use Rattle.casefile.specs.Case.{case_of_lists};
 ghost use Rattle.casefile.specs.Decode.{decode};

@@ -1,5 +1,7 @@
 // Big-endian numbers of 2, 4 and 8 bytes: read at a place of a slice, and written over the front of a lent part.
 // Signed numbers are in two's complement. Each open function asks only that its bytes lie within the slice.
+#![tactic(auto)]
+
 ghost use Rattle.std.specs.Prelude.{◌+◌, ◌≤◌, ◌<◌, length, take, drop, ◌≡◌};
 ghost use Rattle.std.specs.Int.Signed.{mag};
 ghost use Rattle.std.specs.Int.{Width, w16, w32, w64};

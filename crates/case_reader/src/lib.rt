@@ -1,4 +1,6 @@
 // The reader of case files: bytes in, the case or the first refusal out.
+#![tactic(auto)]
+
 mod row_fields;
 
 ghost use Rattle.std.specs.Prelude.{drop};

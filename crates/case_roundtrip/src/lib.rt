@@ -1,4 +1,6 @@
 // Demand 2's round trip as a caller sees it: these functions use the contracts of the reader and the writer and nothing inside them.
+#![tactic(auto)]
+
 ghost use Rattle.std.specs.Prelude.{◌≡◌};
 ghost use Rattle.outcome.specs.CallResult.{call_result};
 ghost use Rattle.casefile.specs.Case.{case_of_lists};

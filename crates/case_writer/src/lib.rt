@@ -1,4 +1,6 @@
 // The writer of case files.
+#![tactic(auto)]
+
 mod row_fields;
 
 ghost use Rattle.std.specs.Prelude.{◌≤◌, length, ◌≡◌};

@@ -1,5 +1,7 @@
 // A case in arrays, as the round trip returns it; whether n, e and K are within their limits, and whether a list of coefficients has the count due and is
 // within them; and the tags, lengths and places of a case's fields in bytes, with how many figures the trial has.
+#![tactic(auto)]
+
 ghost use Rattle.std.specs.Prelude.{◌≤◌, ◌≡◌};
 ghost use Rattle.limits.specs.Limits.{most_tanks};
 ghost use Rattle.casefile.specs.Case.{tanks_are_fine, head_is_fine, square_counted, coefficients_are_fine};

@@ -1,5 +1,7 @@
 // Words and decimal numbers as bytes in a buffer. Each writer writes from the place `at` on, changes nothing else, and returns the place
 // after what it wrote. `read_digits` reads digits back.
+#![tactic(auto)]
+
 ghost use Rattle.std.specs.Prelude.{◌≤◌, length, ◌≡◌};
 ghost use Rattle.limits.specs.Limits.{most_exponent};
 ghost use Rattle.buffer.specs.Buffer.{Room, Wrote};

@@ -1,4 +1,6 @@
 // Elimination with row exchanges on working numbers.
+#![tactic(auto)]
+
 ghost use Rattle.std.specs.Prelude.{◌<◌, ◌≤◌, pos, ◌*ℤ◌, [], ◌≡◌};
 ghost use Rattle.limits.specs.Limits.{most_tanks};
 ghost use Rattle.rounding.specs.Round.{rnd};

@@ -1,4 +1,6 @@
 // Fields of a file: one byte tag, two bytes length, then the value.
+#![tactic(auto)]
+
 ghost use Rattle.std.specs.Prelude.{◌≤◌, length, drop, ◌≡◌};
 ghost use Rattle.buffer.specs.Buffer.{onto};
 ghost use Rattle.outcome.specs.Outcome.{status_number};

@@ -1,6 +1,8 @@
 // Runs of figures of one kind: read with a test of their limits, tested, and written.
 // One law over the kind of figure stands behind the loops of each of the three. No loop ends early: it has one way out, and what it leaves is known
 // for every input.
+#![tactic(auto)]
+
 ghost use Rattle.std.specs.Prelude.{◌+◌, ◌*◌, ◌≤◌, length, drop, ◌≡◌};
 ghost use Rattle.buffer.specs.Buffer.{onto};
 ghost use Rattle.figures.specs.Figures.{i16_kind, u16_kind, i32_kind, u32_kind, up_to_limit, within_limit, all_up_to_limit, all_within_limit, spread, Read};

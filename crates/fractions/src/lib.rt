@@ -1,4 +1,6 @@
 // The order of two fractions, with no product formed.
+#![tactic(auto)]
+
 ghost use Rattle.std.specs.Prelude.{◌⊎◌, ◌≡◌};
 ghost use Rattle.fractions.specs.Fraction.{◌over◌, order};
 ghost use Rattle.fractions.specs.Greatest.{is_greater_order};

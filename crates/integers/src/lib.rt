@@ -1,4 +1,6 @@
 // Laws of whole numbers, in specs/, and in code the absolute value, the powers of ten that an exponent of a case asks, and what they scale.
+#![tactic(auto)]
+
 ghost use Rattle.std.specs.Prelude.{◌^◌, ◌<◌, ◌≤◌, pos, nat_abs, ◌*ℤ◌, ◌≡◌};
 
 // The absolute value of any number, the least one too.

@@ -1,4 +1,6 @@
 // The judgement of a trial answer, exactly, by the theorem of Oettli and Prager.
+#![tactic(auto)]
+
 ghost use Rattle.std.specs.Prelude.{ℕ, ◌+◌, ◌*◌, ◌^◌, ◌≤◌, ◌<◌, pos, nat_abs, get_or, ◌≡◌};
 ghost use Rattle.limits.specs.Limits.{most_tanks, most_coefficients};
 ghost use Rattle.integers.specs.Tables.{filled};

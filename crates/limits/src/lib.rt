@@ -1,4 +1,6 @@
 // The limits of a case's figures: document 01, "Figures". A figure is within its limit where its size is at most that; n is also at least 1.
+#![tactic(auto)]
+
 pub const MOST_TANKS: usize = 8;
 
 // Rows times tanks.

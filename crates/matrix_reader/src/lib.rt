@@ -1,4 +1,6 @@
 // The reader of Matrix Market files. Each part is read from the front of what is left of the text.
+#![tactic(auto)]
+
 ghost use Rattle.std.specs.Prelude.{◌-◌, ◌≤◌, pos, neg_ℤ, length, cond, ◌≡◌};
 ghost use Rattle.limits.specs.Limits.{coefficient_limit};
 ghost use Rattle.buffer.specs.Buffer.{onto, leading, begins_by};

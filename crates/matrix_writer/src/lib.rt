@@ -1,4 +1,6 @@
 // The writer of Matrix Market files.
+#![tactic(auto)]
+
 ghost use Rattle.std.specs.Prelude.{◌+◌, ◌*◌, ◌≤◌, length, ◌≡◌};
 ghost use Rattle.buffer.specs.Buffer.{Room, Wrote, joined};
 ghost use Rattle.outcome.specs.CallResult.{call_result};

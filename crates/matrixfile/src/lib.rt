@@ -1,5 +1,7 @@
 // Matrix Market files of coefficients: the text that is written, how a text is read, and the laws of both, in specs/; and in code the first line, the length
 // of the longest text and the most digits of an entry.
+#![tactic(auto)]
+
 pub const FIRST_LINE: [u8; FIRST_LINE_LENGTH] = *b"%%MatrixMarket matrix array integer general\n";
 
 pub const FIRST_LINE_LENGTH: usize = 44;

@@ -1,4 +1,6 @@
 // What a call or a check answers, the number that the papers give each refusal, and the answer of a check by one test.
+#![tactic(auto)]
+
 ghost use Rattle.std.specs.Prelude.{◌≡◌};
 ghost use Rattle.outcome.specs.Outcome.{number_of, status_number, check as checked};
 

@@ -1,4 +1,6 @@
 // The record of a judged answer, as bytes.
+#![tactic(auto)]
+
 ghost use Rattle.std.specs.Prelude.{◌+◌, ◌≤◌, ◌<◌, length, ◌≡◌};
 ghost use Rattle.limits.specs.Limits.{most_tanks};
 ghost use Rattle.buffer.specs.Buffer.{onto, Wrote, run};

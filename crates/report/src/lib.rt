@@ -1,4 +1,6 @@
 // The printed verdict: the lines of a judged condition, or of a refusal, as bytes in a buffer.
+#![tactic(auto)]
+
 ghost use Rattle.std.specs.Prelude.{◌+◌, ◌*◌, ◌≤◌, ◌<◌, pos, length, get_or, cond};
 ghost use Rattle.limits.specs.Limits.{most_tanks, most_exponent};
 ghost use Rattle.buffer.specs.Buffer.{Room, Wrote};

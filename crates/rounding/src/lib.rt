@@ -1,4 +1,6 @@
 // Rounded division of signed numbers.
+#![tactic(auto)]
+
 ghost use Rattle.std.specs.Prelude.{◌<◌, ◌≤◌, ◌^◌, pos, neg_ℤ, nat_abs, ◌≡◌};
 ghost use Rattle.rounding.specs.Half.{last_bit_of, is_rounded_up};
 ghost use Rattle.rounding.specs.Round.{near, rnd, Defined};

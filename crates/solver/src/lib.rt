@@ -1,5 +1,7 @@
 // The answer of a system of linear equations: one elimination, then rounds of refinement, each trial judged, and the first that is met or the best
 // of them kept.
+#![tactic(auto)]
+
 ghost use Rattle.std.specs.Prelude.{ℕ, ◌<◌, ◌≤◌, ℤ, pos, replicate, true, false, cond, List, ◌≡◌};
 ghost use Rattle.limits.specs.Limits.{most_tanks};
 ghost use Rattle.fractions.specs.Fraction.{◌over◌};

@@ -1,5 +1,7 @@
 // Sounding tables: the kilograms that a tank holds at each whole centimetre of depth, from 0 on, and the depth of an answer in such a table.
 // A table is lent as a slice, so that a ship's own can stand in for the reference tank.
+#![tactic(auto)]
+
 mod entries;
 
 ghost use Rattle.std.specs.Prelude.{◌*◌, ◌<◌, pos, nat_abs, length, false, ◌≡◌};

@@ -1,4 +1,6 @@
 // Soundings: the depth of each tank's answer in the reference tank, of any bytes as a case.
+#![tactic(auto)]
+
 ghost use Rattle.std.specs.Prelude.{◌*◌, ◌<◌, ◌≤◌, length, ◌≡◌};
 ghost use Rattle.std.specs.Int.{w16};
 ghost use Rattle.buffer.specs.Buffer.{onto};

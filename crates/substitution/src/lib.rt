@@ -1,4 +1,6 @@
 // Substitution with an eliminated working matrix: the forward pass with the multipliers, the backward pass with the pivots.
+#![tactic(auto)]
+
 ghost use Rattle.std.specs.Prelude.{pos, get_or, ◌≡◌};
 ghost use Rattle.substitution.specs.Bounds.{Forward, Backward, Reducible, Summable, Correctable};
 ghost use Rattle.substitution.specs.Passes.{after_losses, forward, sum_above_row, correction, corrections, backward};

@@ -22,6 +22,8 @@
 //     then     the text
 // Every byte of the result buffer is A5 before the call, and so is every byte beyond the record, depths, case or text after it, or every byte after a refusal.
 // Every place of the list is A5A5 before the call, and so is every place past the n times n coefficients after it, or every place after a refusal.
+#![tactic(auto)]
+
 ghost use Rattle.std.specs.Prelude.{◌≤◌};
 
 use libc::STDOUT_FILENO;

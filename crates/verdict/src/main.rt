@@ -1,4 +1,6 @@
 // Prints the verdict of the case on standard input. One byte more than the longest case has is read at most, enough to refuse a longer one.
+#![tactic(auto)]
+
 use outcome::Outcome;
 
 const MOST_INPUT: usize = casefile::LONGEST_CASE + 1;

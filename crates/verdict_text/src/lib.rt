@@ -1,4 +1,6 @@
 // What the program `verdict` prints, as bytes in a buffer.
+#![tactic(auto)]
+
 ghost use Rattle.std.specs.Prelude.{◌≡◌};
 ghost use Rattle.outcome.specs.CallResult.{call_result};
 ghost use Rattle.verdict_text.specs.Verdict.{text_call};
