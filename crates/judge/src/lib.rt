@@ -134,7 +134,7 @@ fn first_unmet<'a>(
 }
 
 // What a loading condition brings: the right-hand sides b of its rows, and their tolerances f.
-#[derive(Drop)]
+#[derive(Clone, Copy)]
 pub struct RightHandSide {
     pub values: [i32; MOST_TANKS],
     pub tolerances: [u32; MOST_TANKS],
@@ -219,7 +219,7 @@ fn greatest_factor<'a>(
 }
 
 // What is said of a trial besides the residuals and reaches of its rows. Rows are counted from 1.
-#[derive(Drop)]
+#[derive(Clone, Copy)]
 pub struct Conclusion {
     // whether every row is met, and the first that is not, or 0
     pub met: bool,

@@ -5,7 +5,7 @@ ghost use Rattle.std.specs.Prelude.{◌≡◌};
 ghost use Rattle.outcome.specs.Outcome.{number_of, status_number, check as checked};
 
 // Document 01, "Refused, in this order", and behind them document 02's refusals: of soundings, and of Matrix Market files.
-#[derive(Drop)]
+#[derive(Clone, Copy)]
 pub enum Refusal {
     BufferTooShort,
     FieldMissing,
@@ -22,14 +22,14 @@ pub enum Refusal {
 }
 
 // The answer of a call: a count, of bytes that were written or, in reading a matrix, of its tanks; or why it refuses.
-#[derive(Drop)]
+#[derive(Clone, Copy)]
 pub enum Outcome {
     Count(usize),
     Refused(Refusal),
 }
 
 // The answer of a check.
-#[derive(Drop)]
+#[derive(Clone, Copy)]
 pub enum Status {
     Accepted,
     Refused(Refusal),

@@ -82,7 +82,7 @@ fn type_ranges(coefficients: [i16; MOST_COEFFICIENTS], right_hand_side: RightHan
 
 // What is kept of the best trial so far: whether it is the last one, what is said of it, and the factor of the row that decides, as a fraction, by which
 // trials are ranked. Its figures, residuals and reaches stand in the lists of the last trial where it is that one, and otherwise in lists of their own.
-#[derive(Drop)]
+#[derive(Clone, Copy)]
 pub struct BestTrial {
     pub last: bool,
     pub conclusion: Conclusion,
@@ -93,7 +93,7 @@ pub struct BestTrial {
 // What is said of the rounds so far, beside a trial with residuals and reaches and beside the best trial with its own: whether the last round stayed
 // within its limits, how many there were, what is said of the trial, and of the best of them. Where no round was made nothing is said. After refusal 9
 // it is as before that round.
-#[derive(Drop)]
+#[derive(Clone, Copy)]
 pub struct RefinementState {
     pub within: bool,
     pub rounds: usize,

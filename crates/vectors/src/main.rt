@@ -64,7 +64,7 @@ const REFUSAL: u8 = 1;
 const MOST_RESULTS: u64 = 1000000;
 
 // The six files.
-#[derive(Drop)]
+#[derive(Clone, Copy)]
 enum Stream {
     Records,
     Soundings,

@@ -1,0 +1,22 @@
+-- `bigendian::write_i32` meets its contract: the bits of the number, written as an unsigned one.
+-- Assumes nothing.
+use borrow.Author.Rules.{rules}
+use mathlib.Core.Path.{refl}
+use mir.Facts.{Fits-of_z}
+use mir.Syntax.{w32}
+use native.Mathlib.Omega.{arith}
+use Rattle.integers.specs.Signed.{wide_fits, wide_mag, wide_bits}
+use Rattle.bigendian.proofs.write_i32.Goals as goal
+
+pub overflow_cast-z : goal.overflow_cast-z
+overflow_cast-z c = wide_fits w32 tt _ c.ranges.z
+
+pub bits_of-requires : goal.bits_of-requires
+bits_of-requires c = omega (arith, wide_mag w32 tt _ c.ranges.z)
+
+pub overflow_cast-bits_of : goal.overflow_cast-bits_of
+overflow_cast-bits_of c = let f = c.ranges.z in rw (wide_bits w32 tt _ f (c.bits_of.ensures w32 refl)) (Fits-of_z f)
+
+pub returns : goal.returns
+returns c = let b = c in
+    rw (wide_bits w32 tt _ b.ranges.z (b.bits_of.ensures w32 refl)) at c.write_u32.ensures

@@ -1,0 +1,15 @@
+use Prim.Native.Nat.{◌-◌}
+use lib.IntN.{ℤ, pos}
+use lib.ListN.{length, get_or}
+use mir.Syntax.{w32}
+use native.Mathlib.Omega.{arith}
+use Rattle.integers.specs.Signed.{wide_fits}
+use Rattle.figures.specs.Figures.{within_limit}
+use Rattle.figures.specs.LoopLaws.{tested, Testing, test_begun, test_turn, test_ended}
+use Rattle.figures.proofs.all_i32.Given as goal
+
+abbrev pub invariant-loop-i : goal.invariant-loop-i
+invariant-loop-i l = Testing (within_limit l.limit) l.a l.fine l.i
+
+abbrev pub decreases-loop-i : goal.decreases-loop-i
+decreases-loop-i l = length l.a - l.i
