@@ -33,13 +33,13 @@ measure_row-row-requires c =
     let figures' : List ℤ = c.widen.new.figures in
     let magnitudes' : List ℕ = c.widen.new.magnitudes in
     let trial' : List ℤ = start.args.trial.now in
-    let same : (j : ℕ) → j < start.args.n → get_or figures' (pos 0) ≡ get_or trial' (pos 0) = λ j l. ap (λ (w : List ℤ). get_or w j (pos 0)) c.widen.ensures.0 ∙ get_d_filled (pos 0) (λ k. get_or trial' (pos 0)) most_tanks start.args.n j l (omega (arith, start.requires)) in
+    let same : (j : ℕ) → j < start.args.n → get_or figures' (pos 0) ≡ get_or trial' (pos 0) = λ j l. ap (λ (w : List ℤ). get_or w j (pos 0)) c.widen.ensures.figures ∙ get_d_filled (pos 0) (λ k. get_or trial' (pos 0)) most_tanks start.args.n j l (omega (arith, start.requires)) in
     let magnitudes_are : Magnitudes start.args.n figures' magnitudes' = record {
       are = λ j l.
-          ap (λ (w : List ℕ). get_or w j 0) c.widen.ensures.1.0
+          ap (λ (w : List ℕ). get_or w j 0) c.widen.ensures.magnitudes.0
           ∙ get_d_filled 0 (λ k. nat_abs (get_or trial' (pos 0))) most_tanks start.args.n j l (omega (arith, start.requires))
           ∙ ap nat_abs (sym (same l));
-      small = λ j l. rw (same l) (c.widen.ensures.1.1 j l);
+      small = λ j l. rw (same l) (c.widen.ensures.magnitudes.1 j l);
     } in
     let w = c in
     let g = start in (
@@ -53,15 +53,15 @@ loop-i-preserved c =
     let start = c in
     let figures' : List ℤ = c.widen.new.figures in
     let trial' : List ℤ = start.args.trial.now in
-    let same : (j : ℕ) → j < start.args.n → get_or figures' (pos 0) ≡ get_or trial' (pos 0) = λ j l. ap (λ (w : List ℤ). get_or w j (pos 0)) c.widen.ensures.0 ∙ get_d_filled (pos 0) (λ k. get_or trial' (pos 0)) most_tanks start.args.n j l (omega (arith, start.requires)) in
+    let same : (j : ℕ) → j < start.args.n → get_or figures' (pos 0) ≡ get_or trial' (pos 0) = λ j l. ap (λ (w : List ℤ). get_or w j (pos 0)) c.widen.ensures.figures ∙ get_d_filled (pos 0) (λ k. get_or trial' (pos 0)) most_tanks start.args.n j l (omega (arith, start.requires)) in
     let at_loop = c in
     let i' : ℕ = at_loop.loop-i.i in
     let g' = start at_loop in
     let s' : System = system g'.args.n g'.args.coefficients.now g'.args.tolerances.now g'.args.t5.values g'.args.t5.tolerances in
     let wide_trial : Trial = trial_of g'.args.n g'.args.scale figures' in
     let fits_b : SFits w32 (get_or g'.args.t5.values i' (pos 0)) = record { sfits = c.measure_row-arg-1.given } in
-    let residual_is : c.measure_row-row.result.residual ≡ residual (row s') (trial_of g'.args.n g'.args.scale trial') = (rw (to_z-of_z fits_b) at c.measure_row-row.ensures.0) ∙ same_residual wide_trial _ same (row s') in
-    let reach_is : c.measure_row-row.result.reach ≡ reach (row s') (trial_of g'.args.n g'.args.scale trial') = (rw (to_z-of_z fits_b) at c.measure_row-row.ensures.1) ∙ same_reach wide_trial _ same (row s') in
+    let residual_is : c.measure_row-row.result.residual ≡ residual (row s') (trial_of g'.args.n g'.args.scale trial') = (rw (to_z-of_z fits_b) at c.measure_row-row.ensures.residual) ∙ same_residual wide_trial _ same (row s') in
+    let reach_is : c.measure_row-row.result.reach ≡ reach (row s') (trial_of g'.args.n g'.args.scale trial') = (rw (to_z-of_z fits_b) at c.measure_row-row.ensures.reach) ∙ same_reach wide_trial _ same (row s') in
     let d = c in
     let l = at_loop in
     let pre = g'.requires in

@@ -19,7 +19,7 @@ use Rattle.judge.proofs.measure.Given as goal
 
 abbrev pub invariant-loop-i : goal.invariant-loop-i
 invariant-loop-i l =
-    let s = system l.n l.coefficients l.tolerances l.right-hand-side.values l.right-hand-side.tolerances in
+    let s = system l.n l.coefficients l.tolerances l.right_hand_side.values l.right_hand_side.tolerances in
     let t = trial_of l.n l.scale l.trial in
     Filling (λ k. residual (row s k) t) (pos 0) l.n l.residuals l.i × Filling (λ k. reach (row s k) t) 0 l.n l.reaches l.i
 

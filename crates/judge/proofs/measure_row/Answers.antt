@@ -17,7 +17,7 @@ overflow_sub-result c =
     let scaled' : ℤ = c.scaled.result in
     let products' : ℤ = c.row_sums-sums.result.products in
     let read_scaled : to_z w64 (of_z w64 scaled') ≡ scaled' = to_z-of_z (record { sfits = c.scaled.type_inv }) in
-    let small : nat_abs products' ≤ 2 ^ 49 = omega (arith, c.row_sums-sums.ensures.1.1.0, start.requires.0) in
+    let small : nat_abs products' ≤ 2 ^ 49 = omega (arith, c.row_sums-sums.ensures.weights.1.0, start.requires.0) in
     let read_products : to_z w64 (of_z w64 products') ≡ products' = to_z-of_z (sfits_size (omega (arith, small))) in
     let x = at_most scaled' (2 ^ 47) c.scaled.ensures.1 in
     let p = at_most products' (2 ^ 49) small in
@@ -31,7 +31,7 @@ returns c =
     let products' : ℤ = c.row_sums-sums.result.products in
     let read_scaled : to_z w64 (of_z w64 scaled') ≡ scaled' = to_z-of_z (record { sfits = c.scaled.type_inv }) in
     let scaled_is : scaled' ≡ pos start.args.scale *ℤ start.args.right_side = rw (to_z-of_z start.ranges.right_side) at c.scaled.ensures.0 in
-    let small : nat_abs products' ≤ 2 ^ 49 = omega (arith, c.row_sums-sums.ensures.1.1.0, start.requires.0) in
+    let small : nat_abs products' ≤ 2 ^ 49 = omega (arith, c.row_sums-sums.ensures.weights.1.0, start.requires.0) in
     let read_products : to_z w64 (of_z w64 products') ≡ products' = to_z-of_z (sfits_size (omega (arith, small))) in
     let d = c in
     let sums = d.row_sums-sums.ensures in (

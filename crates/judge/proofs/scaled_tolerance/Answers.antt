@@ -8,10 +8,10 @@ use Rattle.judge.proofs.scaled_tolerance.Goals as goal
 
 pub overflow_mul-result : goal.overflow_mul-result
 overflow_mul-result c =
-    let small : c.args.scale * c.args.right_tolerance_lem ≤ 2 ^ 48 = le_trans (mul-le-mul {n₂ = 2 ^ 16} {m₂ = 2 ^ 32} (omega arith) (omega arith)) (lit≤ tt) in
+    let small : c.args.scale * c.args.right_tolerance ≤ 2 ^ 48 = le_trans (mul-le-mul {n₂ = 2 ^ 16} {m₂ = 2 ^ 32} (omega arith) (omega arith)) (lit≤ tt) in
     omega (arith, small)
 
 pub returns : goal.returns
 returns c =
-    let small : c.args.scale * c.args.right_tolerance_lem ≤ 2 ^ 48 = le_trans (mul-le-mul {n₂ = 2 ^ 16} {m₂ = 2 ^ 32} (omega arith) (omega arith)) (lit≤ tt) in
+    let small : c.args.scale * c.args.right_tolerance ≤ 2 ^ 48 = le_trans (mul-le-mul {n₂ = 2 ^ 16} {m₂ = 2 ^ 32} (omega arith) (omega arith)) (lit≤ tt) in
     (refl, small)
