@@ -69,13 +69,13 @@ module _ (n : ℕ) where
   pub split_sound : {m : ℕ} {r : Block} → SoundBlock (m * n) m r → Rows n (split n m r)
   unfolding split
   split_sound {m = zero} s = none
-  split_sound {m = suc m} {r} s = one (sound_front m r s) (split_sound (sound_behind m r s))
+  split_sound {m = suc m} {r} s = one (sound_front m r s) (split_sound {m = m} (sound_behind m r s))
 
   -- the rows of a block are the block, and the rows that a block was made of are its rows
   pub together_split : {m : ℕ} {r : Block} → SoundBlock (m * n) m r → together (split n m r) ≡ r
   unfolding split
   together_split {m = zero} {r} s = let e : front (zero * n) zero r ≡ r = search (take_all, le_of_eq) in rw (zero-mul n) at e
-  together_split {m = suc m} {r} s = simp (together_split (sound_behind m r s), take-append-drop)
+  together_split {m = suc m} {r} s = simp (together_split {m = m} (sound_behind m r s), take-append-drop)
 
   pub split_together : {rs : List Block} → Rows n rs → split n (length rs) (together rs) ≡ rs
   unfolding split

@@ -5,7 +5,7 @@ use Rattle.std.specs.Prelude.{ℕ, suc, ◌+◌, ◌*◌, ◌-◌, ◌^◌, ◌�
 use Rattle.std.proofs.Common.{length-set, drop-drop, take-suc, take-suc-set, take_all, append-nil, ◌∙◌, mul-suc, add-one}
 use Rattle.std.proofs.Math.Seq.{append_snoc}
 use Rattle.std.specs.Int.Signed.{mag}
-use Rattle.std.proofs.Math.Bool.{and_true}
+use Rattle.std.proofs.Math.Bool.{and-true}
 use Rattle.std.proofs.Math.Path.{refl, sym}
 use Rattle.std.specs.Int.{Width, w64}
 use mir.Val.{hbits, to_z, of_z}
@@ -25,7 +25,7 @@ tested w narrow z h limit e = rw (e, wide_is w narrow z (record { sfits = h }))
 -- a test of one element more
 all_more : {X : Type 0} (f : X → Bool) (l : List X) (x : X) → all f (l ++ (x ∷ [])) ≡ (all f l && f x)
 unfolding all
-all_more f l x = rw (all_both f l (x ∷ []), and_true (f x))
+all_more f l x = rw (all_both f l (x ∷ []), and-true (f x))
 
 -- what is left is the next one, and what is left behind it
 left : (n i : ℕ) → i < n → n - i ≡ suc (n - (i + 1))

@@ -10,15 +10,11 @@ use Rattle.figures.specs.Figures.{within_limit}
 use Rattle.figures.specs.LoopLaws.{tested, Testing, test_begun, test_turn, test_ended}
 use Rattle.figures.proofs.all_i32.Goals as goal
 
--- BAD
--- the figure that is tested
-abbrev figure : @PLACE.After-magnitude-arg-1   → ℤ
-figure c = get_or c.args.a.now c.loop-i.i (pos 0)
-
 pub loop-i-preserved : goal.loop-i-preserved
 loop-i-preserved c =
+    let figure : ℤ = get_or c.args.a.now c.loop-i.i (pos 0) in
     let x = c in
-    test_turn x.loop-i.invariant (pos 0) x.loop-i-test.true (tested w32 tt (figure x) x.magnitude-arg-1.given _ c.magnitude.ensures)
+    test_turn x.loop-i.invariant (pos 0) x.loop-i-test.true (tested w32 tt figure x.magnitude-arg-1.given _ c.magnitude.ensures)
 
 pub loop-i-init : goal.loop-i-init
 loop-i-init c = test_begun
@@ -30,7 +26,9 @@ pub bounds-a-i : goal.bounds-a-i
 bounds-a-i c = omega arith
 
 pub overflow_cast-a : goal.overflow_cast-a
-overflow_cast-a c = wide_fits w32 tt (figure c) (record { sfits = c.magnitude-arg-1.given })
+overflow_cast-a c =
+    let figure : ℤ = get_or c.args.a.now c.loop-i.i (pos 0) in
+    wide_fits w32 tt figure (record { sfits = c.magnitude-arg-1.given })
 
 pub magnitude-requires : goal.magnitude-requires
 magnitude-requires c = tt
@@ -43,4 +41,3 @@ loop-i-smaller c = omega arith
 
 pub returns : goal.returns
 returns c = test_ended c.loop-i.invariant c.loop-i-test.false
-

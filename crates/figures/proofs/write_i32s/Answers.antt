@@ -14,7 +14,7 @@ use Rattle.figures.proofs.write_i32s.Goals as goal
 
 pub overflow_add-p : goal.overflow_add-p
 overflow_add-p c = let n = run_next c.loop-i.invariant c.loop-i-test.true in
-    omega (arith, c.well-formed, c.loop-i.invariant.same)
+    omega (arith, c.well_formed, c.loop-i.invariant.same)
 
 pub loop-i-preserved : goal.loop-i-preserved
 loop-i-preserved c = let e = rw (to_z-of_z {w = w32} (record { sfits = c.write_i32-arg-1.given })) at c.write_i32.ensures in

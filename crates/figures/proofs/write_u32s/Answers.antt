@@ -11,7 +11,7 @@ use Rattle.figures.proofs.write_u32s.Goals as goal
 
 pub overflow_add-p : goal.overflow_add-p
 overflow_add-p c = let n = run_next c.loop-i.invariant c.loop-i-test.true in
-    omega (arith, c.well-formed, c.loop-i.invariant.same)
+    omega (arith, c.well_formed, c.loop-i.invariant.same)
 
 pub loop-i-preserved : goal.loop-i-preserved
 loop-i-preserved c = run_turn_lent c.loop-i.invariant c.loop-i-test.true (length_bytes _ _) c.write_u32.ensures
