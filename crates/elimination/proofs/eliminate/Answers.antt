@@ -1,15 +1,14 @@
 -- `elimination::eliminate` meets its contract. The steps' invariant: the state is that after k steps. The rows' invariant: the search from
 -- here on finds the pivot. Where it ends with zero, all later steps leave the state as it is. Assumes nothing.
-use Prim.Native.Nat.{ℕ, ◌+◌, ◌-◌, ◌<◌, ◌≤◌}
-use borrow.Author.Rules.{rules}
+use Prim.Native.Nat.{ℕ, ◌+◌, ◌<◌, ◌≤◌}
 use lib.IntN.{ℤ, nat_abs}
 use mathlib.Core.List.{List, []}
-use mathlib.Core.Logic.{⊎_elim}
 use mathlib.Core.Path.{◌≡◌, refl, sym, ap, ◌∙◌}
 use mir.Facts.{to_z-of_z}
 use native.Mathlib.Omega.{arith}
+use Rattle.limits.specs.Limits.{most_tanks}
 use Rattle.elimination.specs.Bounds.{last_step}
-use Rattle.elimination.specs.Conditions.{Pivoted}
+use Rattle.elimination.specs.Conditions.{Pivoted, StartRows}
 use Rattle.elimination.specs.Factors.{kept, kept_pivoted}
 use Rattle.elimination.specs.Laws.{exchange_same}
 use Rattle.elimination.specs.Matrix.{at}
@@ -17,10 +16,14 @@ use Rattle.elimination.specs.Outcome.{outcome, Eliminates}
 use Rattle.elimination.specs.OutcomeLaws.{steps_zero_pivot, steps_complete}
 use Rattle.elimination.specs.Pivot.{pivot_best, pivot_up, pivot_stay, pivot_done}
 use Rattle.elimination.specs.Runs.{after_none, after_more, advanced_step, stays}
-use Rattle.elimination.specs.Steps.{pivot_from, pivot_row, exchange, eliminated_below, Run, largest, next_run, after_steps, eliminated}
+use Rattle.elimination.specs.Steps.{working_matrix, pivot_row, exchange, eliminated_below, Run, largest, next_run, after_steps, eliminated}
 use Rattle.elimination.specs.declared.Elimination.{Elimination}
 use Rattle.elimination.proofs.eliminate.Invariants.{Made, Searched, state}
 use Rattle.elimination.proofs.eliminate.Goals as goal
+use Rattle.elimination.proofs.eliminate.Goals.{then-largest-size, else-largest-size, then-k-n, else-k-n}
+use Rattle.elimination.proofs.eliminate.Goals.{else-steps-test, then-steps-test+then-i-n+then-largest-eq0}
+use mir.Syntax.{w64}
+use mir.Val.{SFits}
 
 -- one step more
 made_more : {n k p : ℕ} {a : List ℤ} {w w₁ : List (List ℤ)} {places places₁ : List ℕ}
@@ -41,7 +44,7 @@ made_last {n} {k} {a} {w} {places} m h o l =
 
 -- what is left when the steps are over
 eliminates : {n : ℕ} {a : List ℤ} {r : Run} {answer : Elimination} → eliminated n a ≡ r → answer ≡ outcome n r.steps
-    → Eliminates n a answer r.working-1 r.order-1
+    → Eliminates n a answer r.working r.order
 eliminates e p = record { refusal_is = rw (e, p); step_is = rw (e, p); working_is = rw e; order_is = rw e }
 
 -- one candidate more, which is larger or not
@@ -72,6 +75,22 @@ module _ {w : List (List ℤ)} {k n pivot size i : ℕ} (s : Searched w k n pivo
   size_largest : (places : List ℕ) → largest n (state w places k) ≡ size
   size_largest places = sym (s.size_is ∙ ap (λ (x : ℕ). nat_abs (at w x k)) pivot_is)
 
+-- the whole, once the steps are left: all are made, or the pivot is zero
+module _ {n k : ℕ} {a : List ℤ} {w : List (List ℤ)} {places : List ℕ} (m : Made n a w places k) where
+  all_made : n ≤ k → eliminated n a ≡ state w places k
+  unfolding eliminated
+  all_made h = let e : n ≡ k = omega (arith, m.few) in ap (after_steps n a) e ∙ m.is
+
+  zero_found : largest n (state w places k) ≡ 0 → eliminated n a ≡ state w places k
+  unfolding eliminated
+  zero_found h = stays n a k n m.few (rw m.is h) ∙ m.is
+
+-- where the pivot is not zero
+ready : {n k : ℕ} {a : List ℤ} {w w₀ : List (List ℤ)} {places : List ℕ} → n ≤ most_tanks → StartRows w₀ (working_matrix n a) → Made n a w places k
+    → k < n → 0 < largest n (state w places k) → Pivoted (exchange [] w k (pivot_row w k n)) k n
+ready {n} {k} {a} {w} {w₀} {places} h8 f m h l =
+    kept_pivoted n (state w places k) h8 h (rw m.is at (kept n a h8 (rw f.are at f.in_bound) k m.few)) l
+
 pub fill_rows-requires : goal.fill_rows-requires
 fill_rows-requires c = (c.requires, refl)
 
@@ -83,131 +102,54 @@ steps-init c =
 pub rows-init : goal.rows-init
 unfolding pivot_row
 rows-init c =
+    let f : SFits w64 (at c.steps.working c.steps.k c.steps.k) = record { sfits = omega arith } in
     record {
       some = omega arith;
       inside = omega arith;
-      size_is = rw (to_z-of_z (record { sfits = c.magnitude-arg-1.given })) at c.magnitude-largest.ensures;
+      size_is = rw (to_z-of_z f) at c.magnitude-largest.ensures;
       rest = refl;
     }
 
 pub rows-preserved : goal.rows-preserved
 rows-preserved c =
-    let r = c in
-    let e = rw (to_z-of_z (record { sfits = c.magnitude-arg-in-rows-1.given })) at c.magnitude-size.ensures in
-    ⊎_elim
-    (λ t. rw (t.1, t.2) (searched_up r.rows.invariant (omega arith) e t.0.taken))
-    (λ t. rw (t.1, t.2) (searched_stay r.rows.invariant (omega arith) e t.0.left))
-    c.if-largest-size.branch
+    let f : SFits w64 (at c.steps.working c.rows.i c.steps.k) = record { sfits = omega arith } in
+    let e = rw (to_z-of_z f) at c.magnitude-size.ensures in
+    elim c.if-largest-size.branch [
+      | then-largest-size w ↦ rw (w.pivot-is, w.largest-is) (searched_up c.rows.invariant (omega arith) e w.if-largest-size.true)
+      | else-largest-size w ↦ rw (w.pivot-is, w.largest-is) (searched_stay c.rows.invariant (omega arith) e w.if-largest-size.false)
+    ]
 
 pub step-requires : goal.step-requires
 step-requires c =
-    let head = c in
-    let n' : ℕ = head.args.n in
-    let w' : List (List ℤ) = head.steps.working in
-    let places' : List ℕ = head.steps.order in
-    let k' : ℕ = head.steps.k in
-    let pivot_found : c.rows.pivot ≡ pivot_row w' n' = let r = c in pivot_is r.rows.invariant (omega arith) in
-    let nonzero : 0 < largest n' (state w' places') = let r = c in
-    omega (arith, size_largest r.rows.invariant (omega arith) places', c.if-largest-eq0.false) in
-    let ready : Pivoted (exchange [] w' (pivot_row w' n')) k' = let s = head in
-    let f = head.fill_rows.ensures in
-    let b = rw f.are at f.in_bound in
-    kept_pivoted n' (state w' places') s.requires (omega arith)
-    (rw head.steps.inv.is at (kept n' s.args.coefficients.now s.requires b k' (omega arith)))
-    nonzero in
-    let e = c in (omega arith, rw pivot_found ready)
+    let n = c.args.n in
+    let w = c.steps.working in
+    let k = c.steps.k in
+    let found : c.rows.pivot ≡ pivot_row w k n = pivot_is c.rows.invariant (omega arith) in
+    let nonzero : 0 < largest n (state w c.steps.order k) = omega (arith, size_largest c.rows.invariant (omega arith) c.steps.order) in
+    (omega arith, rw found (ready c.requires c.fill_rows.ensures c.steps.invariant (omega arith) nonzero))
 
 pub steps-preserved : goal.steps-preserved
 steps-preserved c =
-    let head = c in
-    let n' : ℕ = head.args.n in
-    let w' : List (List ℤ) = head.steps.working in
-    let places' : List ℕ = head.steps.order in
-    let k' : ℕ = head.steps.k in
-    let pivot_found : c.rows.pivot ≡ pivot_row w' n' = let r = c in pivot_is r.rows.invariant (omega arith) in
-    let nonzero : 0 < largest n' (state w' places') = let r = c in
-    omega (arith, size_largest r.rows.invariant (omega arith) places', c.if-largest-eq0.false) in
-    let e = c in
-    ⊎_elim
-    (λ t. rw (t.5, t.6) (made_more head.steps.invariant (omega arith) nonzero pivot_found t.2.ensures t.4.ensures))
-    (λ t. rw (t.1, t.2) (made_last head.steps.invariant (omega arith) (omega (arith, t.0.left)) nonzero))
-    c.if-k-n.branch
+    let n = c.args.n in
+    let w = c.steps.working in
+    let k = c.steps.k in
+    let found : c.rows.pivot ≡ pivot_row w k n = pivot_is c.rows.invariant (omega arith) in
+    let nonzero : 0 < largest n (state w c.steps.order k) = omega (arith, size_largest c.rows.invariant (omega arith) c.steps.order) in
+    elim c.if-k-n.branch [
+      | then-k-n t ↦ rw (t.working-is, t.order-is) (made_more c.steps.invariant (omega arith) nonzero found t.step.ensures t.exchange_places.ensures)
+      | else-k-n t ↦ rw (t.working-is, t.order-is) (made_last c.steps.invariant (omega arith) t.if-k-n.false nonzero)
+    ]
 
 pub returns-then-k-n-2 : goal.returns-then-k-n-2
-unfolding eliminated
 returns-then-k-n-2 c =
-    let last = c in
-    let a' : List ℤ = last.args.coefficients.now in
-    let whole : eliminated last.args.n a' ≡ state last.steps.working last.steps.order last.steps.k = let d = last in
-    let n = d.args.n in
-    ⊎_elim
-    (λ t. let e : n ≡ d.steps.k = omega (arith, t.left, d.steps.inv.few) in ap (after_steps n a') e ∙ d.steps.inv.is)
-    (λ t. stays n a' d.steps.k n d.steps.inv.few
-    (rw d.steps.inv.is
-    (size_largest {w = d.steps.working} {k = d.steps.k} {n = n} {pivot = t.3.pivot} {size = t.3.largest} {i = t.3.i}
-    t.3.inv (omega (arith, t.4.taken)) d.steps.order ∙ t.5.taken))
-    ∙ d.steps.inv.is)
-    c.steps-test.branch in
+    let whole : eliminated c.args.n c.args.coefficients.now ≡ state c.steps.working c.steps.order c.steps.k =
+    elim c.steps-test.branch [
+      | else-steps-test w ↦ all_made c.steps.invariant (omega arith)
+      | then-steps-test+then-i-n+then-largest-eq0 w ↦
+          zero_found c.steps.invariant (size_largest w.rows.invariant (omega arith) c.steps.order ∙ w.if-largest-eq0.true)
+    ] in
     eliminates whole (sym (steps_zero_pivot _ _ c.if-k-n-2.true))
 
 pub returns-else-k-n-2 : goal.returns-else-k-n-2
-unfolding eliminated
 returns-else-k-n-2 c =
-    let last = c in
-    let a' : List ℤ = last.args.coefficients.now in
-    let whole : eliminated last.args.n a' ≡ state last.steps.working last.steps.order last.steps.k = let d = last in
-    let n = d.args.n in
-    ⊎_elim
-    (λ t. let e : n ≡ d.steps.k = omega (arith, t.left, d.steps.inv.few) in ap (after_steps n a') e ∙ d.steps.inv.is)
-    (λ t. stays n a' d.steps.k n d.steps.inv.few
-    (rw d.steps.inv.is
-    (size_largest {w = d.steps.working} {k = d.steps.k} {n = n} {pivot = t.3.pivot} {size = t.3.largest} {i = t.3.i}
-    t.3.inv (omega (arith, t.4.taken)) d.steps.order ∙ t.5.taken))
-    ∙ d.steps.inv.is)
-    c.steps-test.branch in
-    eliminates whole (sym (steps_complete _ _ c.if-k-n-2.false))
-
-pub offset_bounds-working-k : goal.offset_bounds-working-k
-offset_bounds-working-k c = omega arith
-
-pub offset_bounds-working-k-in-steps : goal.offset_bounds-working-k-in-steps
-offset_bounds-working-k-in-steps c = omega arith
-
-pub bounds-working-k : goal.bounds-working-k
-bounds-working-k c = omega arith
-
-pub bounds-working-k-in-steps : goal.bounds-working-k-in-steps
-bounds-working-k-in-steps c = omega arith
-
-pub overflow_add-i : goal.overflow_add-i
-overflow_add-i c = omega arith
-
-pub offset_bounds-working-i : goal.offset_bounds-working-i
-offset_bounds-working-i c = omega arith
-
-pub offset_bounds-working-k-in-rows : goal.offset_bounds-working-k-in-rows
-offset_bounds-working-k-in-rows c = omega arith
-
-pub bounds-working-i : goal.bounds-working-i
-bounds-working-i c = omega arith
-
-pub bounds-working-k-else-i-n : goal.bounds-working-k-else-i-n
-bounds-working-k-else-i-n c = omega arith
-
-pub overflow_add-i-in-rows : goal.overflow_add-i-in-rows
-overflow_add-i-in-rows c = omega arith
-
-pub rows-smaller : goal.rows-smaller
-rows-smaller c = omega arith
-
-pub overflow_add-k : goal.overflow_add-k
-overflow_add-k c = omega arith
-
-pub exchange_places-requires : goal.exchange_places-requires
-exchange_places-requires c = omega arith
-
-pub overflow_add-k-in-steps : goal.overflow_add-k-in-steps
-overflow_add-k-in-steps c = omega arith
-
-pub steps-smaller : goal.steps-smaller
-steps-smaller c = omega arith
+    eliminates (all_made c.steps.invariant c.if-k-n-2.false) (sym (steps_complete _ _ c.if-k-n-2.false))

@@ -1,22 +1,9 @@
-use Prim.Native.Nat.{ℕ, ◌+◌, ◌-◌, ◌<◌, ◌≤◌}
-use borrow.Author.Rules.{rules}
+use Prim.Native.Nat.{ℕ, ◌-◌, ◌<◌, ◌≤◌}
 use lib.IntN.{ℤ, nat_abs}
-use mathlib.Core.List.{List, []}
-use mathlib.Core.Logic.{⊎_elim}
-use mathlib.Core.Path.{◌≡◌, refl, sym, ap, ◌∙◌}
-use mir.Facts.{to_z-of_z}
-use native.Mathlib.Omega.{arith}
-use Rattle.elimination.specs.Bounds.{last_step}
-use Rattle.elimination.specs.Conditions.{Pivoted}
-use Rattle.elimination.specs.Factors.{kept, kept_pivoted}
-use Rattle.elimination.specs.Laws.{exchange_same}
+use mathlib.Core.List.{List}
+use mathlib.Core.Path.{◌≡◌}
 use Rattle.elimination.specs.Matrix.{at}
-use Rattle.elimination.specs.Outcome.{outcome, Eliminates}
-use Rattle.elimination.specs.OutcomeLaws.{steps_zero_pivot, steps_complete}
-use Rattle.elimination.specs.Pivot.{pivot_best, pivot_up, pivot_stay, pivot_done}
-use Rattle.elimination.specs.Runs.{after_none, after_more, advanced_step, stays}
-use Rattle.elimination.specs.Steps.{pivot_from, pivot_row, exchange, eliminated_below, Run, largest, next_run, after_steps, eliminated}
-use Rattle.elimination.specs.declared.Elimination.{Elimination}
+use Rattle.elimination.specs.Steps.{pivot_from, pivot_row, Run, after_steps}
 use Rattle.elimination.proofs.eliminate.Given as goal
 
 -- the state of the code

@@ -1,11 +1,7 @@
 -- `elimination::step` meets its contract. The invariant: the rows so far are eliminated, so that the others are as the exchange left them.
 -- Assumes nothing.
-use Prim.Native.Nat.{ℕ, ◌+◌, ◌-◌, ◌<◌, ◌≤◌}
-use lib.IntN.{ℤ}
-use lib.ListN.{get_or, set}
-use mathlib.Core.List.{List, []}
-use mathlib.Core.Path.{◌≡◌, sym, ap, subst, ◌∙◌}
-use native.Mathlib.Omega.{arith}
+use Rattle.std.specs.Prelude.{ℕ, ◌+◌, ◌-◌, ◌<◌, ℤ, get_or, set, List, [], ◌≡◌}
+use Rattle.std.proofs.Common.{sym, ap, subst, ◌∙◌, arith}
 use Rattle.integers.specs.TableLaws.{fill_next, fill_left, fill_none}
 use Rattle.integers.specs.Tables.{fill}
 use Rattle.elimination.specs.Bounds.{ready}
@@ -13,69 +9,43 @@ use Rattle.elimination.specs.Conditions.{Pivoted}
 use Rattle.elimination.specs.Steps.{row_below, eliminated_below}
 use Rattle.elimination.proofs.step.Goals as goal
 
+-- the row of a turn is as the exchange left it
+still : {w : List (List ℤ)} {i : ℕ} (w' : List (List ℤ)) (k n : ℕ) → k < i
+    → w ≡ fill (row_below w' k n) (k + 1) (i - (k + 1)) w' → get_or w i [] ≡ get_or w' i []
+still {w} {i} w' k n h e = ap (λ (l : List (List ℤ)). get_or l i []) e ∙ fill_left _ (k + 1) i w' (omega arith) []
+
 pub loop-i-init : goal.loop-i-init
-loop-i-init c =
-    let s = c in
-    (omega arith, omega arith, sym (fill_none _ (s.args.k + 1) (s.args.k + 1) _ (omega arith)))
+loop-i-init c = (omega arith, omega arith, sym (fill_none _ (c.args.k + 1) (c.args.k + 1) _ (omega arith)))
 
 pub eliminate_row-requires : goal.eliminate_row-requires
 eliminate_row-requires c =
-    let start = c in
-    let w' : List (List ℤ) = c.exchange_rows.last.0 in
-    let k' : ℕ = start.args.k in
-    let pivoted : Pivoted w' start.args.n = subst (λ (l : List (List ℤ)). Pivoted l k' start.args.n) (sym c.exchange_rows.ensures) start.requires.1 in
-    let still : get_or c.loop-i.w c.loop-i.i [] ≡ get_or w' c.loop-i.i [] = ap (λ (l : List (List ℤ)). get_or l c.loop-i.i []) c.loop-i.invariant.2 ∙ fill_left _ (k' + 1) c.loop-i.i w' (omega arith) [] in
-    let d = c in
-    rw still (ready _ _ _ d.loop-i.i pivoted (omega arith) (omega arith))
+    let k = c.args.k in
+    let n = c.args.n in
+    let i = c.loop-i.i in
+    let pivoted : Pivoted c.exchange_rows.new.w k n =
+    subst (λ (l : List (List ℤ)). Pivoted l k n) (sym c.exchange_rows.ensures) c.requires.1 in
+    rw (still {i = i} _ k n (omega arith) c.loop-i.invariant.2) (ready _ _ _ i pivoted (omega arith) (omega arith))
 
 pub loop-i-preserved : goal.loop-i-preserved
 loop-i-preserved c =
-    let start = c in
-    let w' : List (List ℤ) = c.exchange_rows.last.0 in
-    let k' : ℕ = start.args.k in
-    let still : get_or c.loop-i.w c.loop-i.i [] ≡ get_or w' c.loop-i.i [] = ap (λ (l : List (List ℤ)). get_or l c.loop-i.i []) c.loop-i.invariant.2 ∙ fill_left _ (k' + 1) c.loop-i.i w' (omega arith) [] in
-    let d = c in
-    let i = d.loop-i.i in (
+    let w = c.exchange_rows.new.w in
+    let k = c.args.k in
+    let n = c.args.n in
+    let i = c.loop-i.i in (
       omega arith,
       omega arith,
-      rw (c.eliminate_row.ensures, still)
-          (ap (λ (l : List (List ℤ)). set l i (row_below w' k' start.args.n i)) d.loop-i.invariant.2
-          ∙ fill_next _ (k' + 1) i w' (omega arith)),
+      rw (c.eliminate_row.ensures, still {i = i} _ k n (omega arith) c.loop-i.invariant.2)
+          (ap (λ (l : List (List ℤ)). set l i (row_below w k n i)) c.loop-i.invariant.2
+          ∙ fill_next _ (k + 1) i w (omega arith)),
     )
 
 pub returns : goal.returns
 unfolding eliminated_below
 returns c =
-    let start = c in
-    let w' : List (List ℤ) = c.exchange_rows.last.0 in
-    let k' : ℕ = start.args.k in
-    let d = c in
-    let n = start.args.n in
-    let e : d.loop-i.i - (k' + 1) ≡ n - (k' + 1) = omega arith in
-    d.loop-i.invariant.2
-    ∙ ap (λ (m : ℕ). fill (row_below w' k' n) (k' + 1) m w') e
-    ∙ ap (λ (l : List (List ℤ)). eliminated_below l k' n) d.exchange_rows.ensures
-
-pub exchange_rows-requires : goal.exchange_rows-requires
-exchange_rows-requires c = omega arith
-
-pub offset_bounds-w-k : goal.offset_bounds-w-k
-offset_bounds-w-k c = omega arith
-
-pub bounds-w-k : goal.bounds-w-k
-bounds-w-k c = omega arith
-
-pub overflow_add-i : goal.overflow_add-i
-overflow_add-i c = omega arith
-
-pub offset_bounds-w-i : goal.offset_bounds-w-i
-offset_bounds-w-i c = omega arith
-
-pub bounds-w-i : goal.bounds-w-i
-bounds-w-i c = omega arith
-
-pub overflow_add-i-in-loop-i : goal.overflow_add-i-in-loop-i
-overflow_add-i-in-loop-i c = omega arith
-
-pub loop-i-smaller : goal.loop-i-smaller
-loop-i-smaller c = omega arith
+    let w = c.exchange_rows.new.w in
+    let k = c.args.k in
+    let n = c.args.n in
+    let e : c.loop-i.i - (k + 1) ≡ n - (k + 1) = omega arith in
+    c.loop-i.invariant.2
+    ∙ ap (λ (m : ℕ). fill (row_below w k n) (k + 1) m w) e
+    ∙ ap (λ (l : List (List ℤ)). eliminated_below l k n) c.exchange_rows.ensures

@@ -1,14 +1,7 @@
-use Prim.Native.Nat.{ℕ, ◌+◌, ◌-◌, ◌<◌, ◌≤◌}
-use lib.IntN.{ℤ}
-use lib.ListN.{get_or, set}
-use mathlib.Core.List.{List, []}
-use mathlib.Core.Path.{◌≡◌, sym, ap, subst, ◌∙◌}
-use native.Mathlib.Omega.{arith}
-use Rattle.integers.specs.TableLaws.{fill_next, fill_left, fill_none}
+use Prim.Native.Nat.{◌+◌, ◌-◌, ◌<◌, ◌≤◌}
+use mathlib.Core.Path.{◌≡◌}
 use Rattle.integers.specs.Tables.{fill}
-use Rattle.elimination.specs.Bounds.{ready}
-use Rattle.elimination.specs.Conditions.{Pivoted}
-use Rattle.elimination.specs.Steps.{row_below, eliminated_below}
+use Rattle.elimination.specs.Steps.{row_below}
 use Rattle.elimination.proofs.step.Given as goal
 
 abbrev pub invariant-loop-i : goal.invariant-loop-i

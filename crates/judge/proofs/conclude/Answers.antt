@@ -1,5 +1,5 @@
 -- `judge::conclude` meets its contract: the deciding row is one of the eight places, and whether it has a factor is read off there. Assumes nothing.
-use Prim.Native.Nat.{◌<◌}
+use Prim.Native.Nat.{ℕ, ◌+◌, ◌<◌, ◌≤◌}
 use borrow.Author.Rules.{rules}
 use lib.IntN.{pos}
 use lib.ListN.{get_or}
@@ -9,48 +9,37 @@ use mir.Syntax.{w64}
 use mir.Val.{SFits}
 use native.Mathlib.Omega.{arith}
 use Rattle.limits.specs.Limits.{most_tanks}
+use Rattle.fractions.specs.Fraction.{Fraction}
 use Rattle.fractions.specs.FirstLaws.{first_below}
-use Rattle.fractions.specs.Greatest.{greater}
+use Rattle.fractions.specs.Greatest.{greater, first_greatest}
 use Rattle.judge.specs.Judgement.{deciding_place, measurement_from}
 use Rattle.judge.specs.Laws.{conclusion}
 use Rattle.judge.proofs.conclude.Goals as goal
 
+-- the deciding row's place is one of the eight
+place : (g : ℕ → Fraction) (n at : ℕ) → n ≤ most_tanks → at ≡ first_greatest g n → at < most_tanks
+place g n at h e = rw e (first_below greater g n most_tanks h (omega arith))
+
 pub offset_bounds-residuals-at : goal.offset_bounds-residuals-at
-offset_bounds-residuals-at c =
-    let begun = c in
-    let place : c.greatest_factor-at.result < most_tanks = rw c.greatest_factor-at.ensures (first_below greater _ begun.args.n most_tanks begun.requires (omega arith)) in
-    omega (arith, place)
+offset_bounds-residuals-at c = omega (arith, place _ _ _ c.requires c.greatest_factor-at.ensures)
 
 pub bounds-residuals-at : goal.bounds-residuals-at
-bounds-residuals-at c =
-    let begun = c in
-    let place : c.greatest_factor-at.result < most_tanks = rw c.greatest_factor-at.ensures (first_below greater _ begun.args.n most_tanks begun.requires (omega arith)) in
-    place
+bounds-residuals-at c = place _ _ _ c.requires c.greatest_factor-at.ensures
 
 pub offset_bounds-reaches-at : goal.offset_bounds-reaches-at
-offset_bounds-reaches-at c =
-    let begun = c in
-    let place : c.greatest_factor-at.result < most_tanks = rw c.greatest_factor-at.ensures (first_below greater _ begun.args.n most_tanks begun.requires (omega arith)) in
-    omega (arith, place)
+offset_bounds-reaches-at c = omega (arith, place _ _ _ c.requires c.greatest_factor-at.ensures)
 
 pub bounds-reaches-at : goal.bounds-reaches-at
-bounds-reaches-at c =
-    let begun = c in
-    let place : c.greatest_factor-at.result < most_tanks = rw c.greatest_factor-at.ensures (first_below greater _ begun.args.n most_tanks begun.requires (omega arith)) in
-    place
+bounds-reaches-at c = place _ _ _ c.requires c.greatest_factor-at.ensures
 
 pub overflow_add-result : goal.overflow_add-result
-overflow_add-result c =
-    let begun = c in
-    let place : c.greatest_factor-at.result < most_tanks = rw c.greatest_factor-at.ensures (first_below greater _ begun.args.n most_tanks begun.requires (omega arith)) in
-    omega (arith, place)
+overflow_add-result c = omega (arith, place _ _ _ c.requires c.greatest_factor-at.ensures)
 
 pub returns : goal.returns
 unfolding deciding_place
 returns c =
-    let begun = c in
-    let place_is : c.greatest_factor-at.result ≡ deciding_place begun.args.n (measurement_from begun.args.unmet begun.args.residuals.now begun.args.reaches.now) = c.greatest_factor-at.ensures in
-    let d = c in
-    let a = begun.args in
-    let f : SFits w64 (get_or a.residuals.now d.greatest_factor-at.result (pos 0)) = record { sfits = c.lacks_factor-arg-1.given } in
-    conclusion a.n a.unmet a.residuals.now a.reaches.now d.greatest_factor-at.result c.lacks_factor.result place_is (simp to_z-of_z at c.lacks_factor.ensures)
+    let a = c.args in
+    let at = c.greatest_factor-at.result in
+    let p : at ≡ deciding_place a.n (measurement_from a.unmet a.residuals.now a.reaches.now) = c.greatest_factor-at.ensures in
+    let f : SFits w64 (get_or a.residuals.now at (pos 0)) = search rules in
+    conclusion a.n a.unmet a.residuals.now a.reaches.now at c.lacks_factor.result p (simp to_z-of_z at c.lacks_factor.ensures)

@@ -9,7 +9,7 @@ use mathlib.Core.List.{List}
 use mathlib.Core.Path.{◌≡◌, sym, ◌∙◌}
 use mir.Facts.{to_z-of_z}
 use mir.Syntax.{w64}
-use mir.Val.{SFits}
+use mir.Val.{SFits, to_z, of_z}
 use native.Mathlib.Numerals.{add-one}
 use native.Mathlib.Omega.{arith}
 use Rattle.judge.specs.Judgement.{row_met, first_not}
@@ -21,28 +21,26 @@ pub loop-i-init : goal.loop-i-init
 unfolding first_not
 loop-i-init c = search rules
 
+-- a magnitude is the size of the residual that was read from its bits
+size : (r : ℤ) (m : ℕ) → SFits w64 r → m ≡ nat_abs (to_z w64 (of_z w64 r)) → m ≡ nat_abs r
+size r m f e = simp to_z-of_z at e
+
 pub returns-then-reaches-i : goal.returns-then-reaches-i
 returns-then-reaches-i c =
-    let start = c in
-    let i' : ℕ = c.loop-i.i in
-    let test' : ℕ → Bool = test start.args.residuals.now start.args.reaches.now in
-    let size : c.magnitude.result ≡ nat_abs (get_or start.args.residuals.now i' (pos 0)) = let f : SFits w64 (get_or start.args.residuals.now i' (pos 0)) = record { sfits = c.magnitude-arg-1.given } in
-    simp to_z-of_z at c.magnitude.ensures in
-    let d = c in
-    let t : test' i' ≡ false = lt-leb _ _ (rw size at c.if-reaches-i.true) in
-    let h = first_not_here test' i' d.loop-i.invariant.1 t in
-    sym (first_not_stays test' (i' + 1) start.args.n i' (omega arith) (h ∙ add-one i') ∙ sym (add-one i'))
+    let i = c.loop-i.i in
+    let p : ℕ → Bool = test c.args.residuals.now c.args.reaches.now in
+    let is = size (get_or c.args.residuals.now i (pos 0)) _ (search rules) c.magnitude.ensures in
+    let t : p i ≡ false = lt-leb _ _ (rw is at c.if-reaches-i.true) in
+    let h = first_not_here p i c.loop-i.invariant.1 t in
+    sym (first_not_stays p (i + 1) c.args.n i (omega arith) (h ∙ add-one i) ∙ sym (add-one i))
 
 pub loop-i-preserved : goal.loop-i-preserved
 loop-i-preserved c =
-    let start = c in
-    let i' : ℕ = c.loop-i.i in
-    let test' : ℕ → Bool = test start.args.residuals.now start.args.reaches.now in
-    let size : c.magnitude.result ≡ nat_abs (get_or start.args.residuals.now i' (pos 0)) = let f : SFits w64 (get_or start.args.residuals.now i' (pos 0)) = record { sfits = c.magnitude-arg-1.given } in
-    simp to_z-of_z at c.magnitude.ensures in
-    let d = c in
-    let t : test' i' ≡ true = le-leb _ _ (rw size at c.if-reaches-i.false) in
-    (omega arith, first_not_more test' i' d.loop-i.invariant.1 t)
+    let i = c.loop-i.i in
+    let p : ℕ → Bool = test c.args.residuals.now c.args.reaches.now in
+    let is = size (get_or c.args.residuals.now i (pos 0)) _ (search rules) c.magnitude.ensures in
+    let t : p i ≡ true = le-leb _ _ (rw is at c.if-reaches-i.false) in
+    (omega arith, first_not_more p i c.loop-i.invariant.1 t)
 
 pub returns : goal.returns
 returns c =

@@ -1,114 +1,97 @@
 -- `judge::row_sums` meets its contract. The loop's invariant: after j tanks the two locals are the pass's running sums, which `running_products` and
 -- `running_weights` turn into the sums over the first j tanks; each product is at most 2 ^ 46 and each weight at most 2 ^ 47. Assumes nothing.
-use Prim.Native.Nat.{ℕ, ◌+◌, ◌*◌, ◌-◌, ◌^◌, ◌≤◌}
+use Prim.Native.Nat.{ℕ, ◌+◌, ◌*◌, ◌-◌, ◌^◌, ◌≤◌, ◌<◌}
 use borrow.Author.Rules.{rules}
 use lib.IntN.{ℤ, pos, nat_abs, ◌+ℤ◌, ◌*ℤ◌}
 use lib.ListN.{get_or}
 use mathlib.Core.Path.{◌≡◌, refl, sym, ap, ◌∙◌}
 use mir.Facts.{to_z-of_z}
 use mir.Syntax.{w16, w64}
-use mir.Val.{SFits, to_z}
+use mir.Val.{SFits, to_z, of_z}
 use native.Mathlib.Omega.{arith}
-use Rattle.integers.specs.Signed.{wide_fits, wide_is}
+use Rattle.integers.specs.Signed.{wide_is}
 use Rattle.integers.specs.Size.{at_most, bounds, size_by, size_sfits, sfits_size, nat_abs-+ℤ}
 use Rattle.judge.specs.RowSumLaws.{running_products, running_weights, running_more}
-use Rattle.judge.specs.RowSums.{add_terms, running_sums}
+use Rattle.judge.specs.RowSums.{add_terms, running_sums, product_sum, weight_sum}
 use Rattle.judge.specs.declared.RowSums.{RowSums}
 use Rattle.judge.specs.System.{coefficients_from, tolerances_from, trial_figures}
 use Rattle.judge.proofs.row_sums.Invariants.{standing}
 use Rattle.judge.proofs.row_sums.Goals as goal
 
-pub loop-j-init : goal.loop-j-init
-loop-j-init c = (refl, omega arith, omega arith, omega arith)
+-- one turn: the product, and the sum p of the first j products with it, as the code reads them from their bits
+record Turn (a y p : ℤ) (j : ℕ) : Type 0 where
+  fits : SFits w64 (a *ℤ y)
+  sum_fits : SFits w64 (p +ℤ a *ℤ y)
+  grown : nat_abs (p +ℤ a *ℤ y) ≤ (j + 1) * 2 ^ 46
 
-pub overflow_cast-products : goal.overflow_cast-products
-overflow_cast-products c = wide_fits w16 tt (get_or c.args.coefficients.now _ (pos 0)) (record { sfits = c.products-1.given })
+turn : (a y p : ℤ) (j : ℕ) → SFits w16 a → nat_abs y ≤ 2 ^ 31 → nat_abs p ≤ j * 2 ^ 46 → j < 8 → Turn a y p j
+turn a y p j f small k l =
+    let x = at_most a (2 ^ 15) (size_sfits f) in
+    let z = at_most y (2 ^ 31) small in
+    let product : nat_abs (a *ℤ y) ≤ 2 ^ 46 = size_by (a *ℤ y) (search bounds) tt in
+    let grown : nat_abs (p +ℤ a *ℤ y) ≤ (j + 1) * 2 ^ 46 = omega (arith, nat_abs-+ℤ p (a *ℤ y)) in
+    record { fits = sfits_size (omega arith); sum_fits = sfits_size (omega arith); grown = grown }
+
+-- the product that the code forms
+formed : (a y : ℤ) → SFits w16 a → SFits w64 y → to_z w64 (of_z w64 (to_z w16 (of_z w16 a))) *ℤ to_z w64 (of_z w64 y) ≡ a *ℤ y
+formed a y f h = rw (wide_is w16 tt a f, to_z-of_z h)
 
 pub overflow_mul-products : goal.overflow_mul-products
 overflow_mul-products c =
-    let at_loop = c in
-    let start = at_loop in
-    let j' : ℕ = at_loop.loop-j.j in
-    let a' : ℤ = coefficients_from start.args.from start.args.coefficients.now j' in
-    let y' : ℤ = trial_figures start.args.figures.now j' in
-    let fits_a : SFits w16 a' = record { sfits = c.products-1.given } in
-    let fits_y : SFits w64 y' = record { sfits = c.products-in-loop-j-1.given } in
-    let small : nat_abs y' ≤ 2 ^ 31 = start.requires.2.small j' c.loop-j-test.true in
-    let product : nat_abs (a' *ℤ y') ≤ 2 ^ 46 = let x = at_most a' (2 ^ 15) (size_sfits fits_a) in
-    let z = at_most y' (2 ^ 31) small in
-    size_by (a' *ℤ y') (search bounds) tt in
-    let product_fits : SFits w64 (a' *ℤ y') = sfits_size (omega (arith, product)) in
-    rw (wide_is w16 tt a' fits_a, to_z-of_z fits_y) product_fits
+    let a : ℤ = coefficients_from c.args.from c.args.coefficients.now c.loop-j.j in
+    let y : ℤ = trial_figures c.args.figures.now c.loop-j.j in
+    let fits_a : SFits w16 a = search rules in
+    let fits_y : SFits w64 y = search rules in
+    let p = to_z w64 c.loop-j.products-bits in
+    let t = turn a y p c.loop-j.j fits_a (c.requires.2.small _ c.loop-j-test.true) c.loop-j.invariant.2 (omega arith) in
+    rw (formed a y fits_a fits_y) t.fits
 
 pub overflow_add-products-in-loop-j : goal.overflow_add-products-in-loop-j
 overflow_add-products-in-loop-j c =
-    let at_loop = c in
-    let start = at_loop in
-    let j' : ℕ = at_loop.loop-j.j in
-    let a' : ℤ = coefficients_from start.args.from start.args.coefficients.now j' in
-    let y' : ℤ = trial_figures start.args.figures.now j' in
-    let p' : ℤ = to_z w64 at_loop.loop-j.products-bits in
-    let fits_a : SFits w16 a' = record { sfits = c.products-1.given } in
-    let fits_y : SFits w64 y' = record { sfits = c.products-in-loop-j-1.given } in
-    let small : nat_abs y' ≤ 2 ^ 31 = start.requires.2.small j' c.loop-j-test.true in
-    let product : nat_abs (a' *ℤ y') ≤ 2 ^ 46 = let x = at_most a' (2 ^ 15) (size_sfits fits_a) in
-    let z = at_most y' (2 ^ 31) small in
-    size_by (a' *ℤ y') (search bounds) tt in
-    let grown : nat_abs (p' +ℤ a' *ℤ y') ≤ (j' + 1) * 2 ^ 46 = omega (arith, nat_abs-+ℤ p' (a' *ℤ y'), product, at_loop.loop-j.invariant.2) in
-    let product_fits : SFits w64 (a' *ℤ y') = sfits_size (omega (arith, product)) in
-    let sum_fits : SFits w64 (p' +ℤ a' *ℤ y') = sfits_size (omega (arith, grown, at_loop.loop-j.invariant.1)) in
-    rw (wide_is w16 tt a' fits_a, to_z-of_z fits_y, to_z-of_z product_fits) sum_fits
-
-pub weight-weights-requires : goal.weight-weights-requires
-weight-weights-requires c =
-    let at_loop = c in
-    let start = at_loop in
-    let j' : ℕ = at_loop.loop-j.j in
-    let y' : ℤ = trial_figures start.args.figures.now j' in
-    let small : nat_abs y' ≤ 2 ^ 31 = start.requires.2.small j' c.loop-j-test.true in
-    let magnitude_is : get_or start.args.magnitudes.now j' 0 ≡ nat_abs y' = start.requires.2.are j' c.loop-j-test.true in
-    let d = c in rw magnitude_is small
-
-pub overflow_add-weights : goal.overflow_add-weights
-overflow_add-weights c =
-    let at_loop = c in
-    let l = at_loop.loop-j in omega (arith, c.weight-weights.ensures.1, l.inv.1, l.inv.3)
+    let a : ℤ = coefficients_from c.args.from c.args.coefficients.now c.loop-j.j in
+    let y : ℤ = trial_figures c.args.figures.now c.loop-j.j in
+    let fits_a : SFits w16 a = search rules in
+    let fits_y : SFits w64 y = search rules in
+    let p = to_z w64 c.loop-j.products-bits in
+    let t = turn a y p c.loop-j.j fits_a (c.requires.2.small _ c.loop-j-test.true) c.loop-j.invariant.2 (omega arith) in
+    rw (formed a y fits_a fits_y, to_z-of_z t.fits) t.sum_fits
 
 pub loop-j-preserved : goal.loop-j-preserved
 loop-j-preserved c =
-    let at_loop = c in
-    let start = at_loop in
-    let j' : ℕ = at_loop.loop-j.j in
-    let a' : ℤ = coefficients_from start.args.from start.args.coefficients.now j' in
-    let e' : ℕ = tolerances_from start.args.from start.args.tolerances.now j' in
-    let y' : ℤ = trial_figures start.args.figures.now j' in
-    let p' : ℤ = to_z w64 at_loop.loop-j.products-bits in
-    let fits_a : SFits w16 a' = record { sfits = c.products-1.given } in
-    let fits_y : SFits w64 y' = record { sfits = c.products-in-loop-j-1.given } in
-    let small : nat_abs y' ≤ 2 ^ 31 = start.requires.2.small j' c.loop-j-test.true in
-    let product : nat_abs (a' *ℤ y') ≤ 2 ^ 46 = let x = at_most a' (2 ^ 15) (size_sfits fits_a) in
-    let z = at_most y' (2 ^ 31) small in
-    size_by (a' *ℤ y') (search bounds) tt in
-    let grown : nat_abs (p' +ℤ a' *ℤ y') ≤ (j' + 1) * 2 ^ 46 = omega (arith, nat_abs-+ℤ p' (a' *ℤ y'), product, at_loop.loop-j.invariant.2) in
-    let product_fits : SFits w64 (a' *ℤ y') = sfits_size (omega (arith, product)) in
-    let sum_fits : SFits w64 (p' +ℤ a' *ℤ y') = sfits_size (omega (arith, grown, at_loop.loop-j.invariant.1)) in
-    let magnitude_is : get_or start.args.magnitudes.now j' 0 ≡ nat_abs y' = start.requires.2.are j' c.loop-j-test.true in
-    let next : add_terms a' y' (standing at_loop.loop-j.products-bits at_loop.loop-j.weights) ≡ running_sums (coefficients_from start.args.from start.args.coefficients.now) (tolerances_from start.args.from start.args.tolerances.now) (trial_figures start.args.figures.now) (j' + 1) = ap (add_terms a' y') at_loop.loop-j.invariant.0 ∙ sym (running_more _ _ _ j') in
-    let d = c in
-    let e = rw magnitude_is at c.weight-weights.ensures.0 in
-    rw (wide_is w16 tt a' fits_a, to_z-of_z fits_y, to_z-of_z product_fits, to_z-of_z sum_fits) (
-      rw e next,
-      omega (arith, d.loop-j-test.true),
-      grown,
-      omega (arith, c.weight-weights.ensures.1, at_loop.loop-j.invariant.3),
+    let j = c.loop-j.j in
+    let A : ℕ → ℤ = coefficients_from c.args.from c.args.coefficients.now in
+    let E : ℕ → ℕ = tolerances_from c.args.from c.args.tolerances.now in
+    let Y : ℕ → ℤ = trial_figures c.args.figures.now in
+    let fits_a : SFits w16 (A j) = search rules in
+    let fits_y : SFits w64 (Y j) = search rules in
+    let p = to_z w64 c.loop-j.products-bits in
+    let t = turn (A j) (Y j) p j fits_a (c.requires.2.small _ c.loop-j-test.true) c.loop-j.invariant.2 (omega arith) in
+    let w = rw (c.requires.2.are j c.loop-j-test.true) at c.weight-weights.ensures.0 in
+    -- the two sums with this tank's terms are the running sums of one tank more
+    let next : add_terms (A j) (E j) (Y j) (standing p c.loop-j.weights) ≡ running_sums A E Y (j + 1)
+    = ap (add_terms (A j) (E j) (Y j)) c.loop-j.invariant.0 ∙ sym (running_more A E Y j) in
+    rw (formed (A j) (Y j) fits_a fits_y, to_z-of_z t.fits, to_z-of_z t.sum_fits) (
+      rw w next,
+      omega arith,
+      t.grown,
+      omega arith,
     )
 
--- after the last turn j is n
-pub returns : goal.returns
-returns c =
+-- the sums over j tanks, and after the last turn j is n
+pub returns-clause-products : goal.returns-clause-products
+returns-clause-products c =
     let l = c.loop-j in
-    let q : l.j ≡ c.args.n = omega (arith, l.invariant.1, c.loop-j-test.false) in
-    rw (sym q) (
-      ap (λ (s : RowSums). s.products-1) l.invariant.0 ∙ running_products _ _ _ l.j,
-      (ap (λ (s : RowSums). s.weights) l.invariant.0 ∙ running_weights _ _ _ l.j, (l.invariant.2, l.invariant.3)),
-    )
+    let a = c.args in
+    let q : l.j ≡ a.n = omega arith in
+    ap (λ (s : RowSums). s.products) l.invariant.0
+    ∙ running_products (coefficients_from a.from a.coefficients.now) (tolerances_from a.from a.tolerances.now) (trial_figures a.figures.now) l.j
+    ∙ ap (product_sum (coefficients_from a.from a.coefficients.now) (trial_figures a.figures.now)) q
+
+pub returns-clause-weights : goal.returns-clause-weights
+returns-clause-weights c =
+    let l = c.loop-j in
+    let a = c.args in
+    let q : l.j ≡ a.n = omega arith in
+    ap (λ (s : RowSums). s.weights) l.invariant.0
+    ∙ running_weights (coefficients_from a.from a.coefficients.now) (tolerances_from a.from a.tolerances.now) (trial_figures a.figures.now) l.j
+    ∙ ap (weight_sum (tolerances_from a.from a.tolerances.now) (trial_figures a.figures.now)) q

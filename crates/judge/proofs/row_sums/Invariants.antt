@@ -16,14 +16,17 @@ use Rattle.judge.specs.System.{coefficients_from, tolerances_from, trial_figures
 use Rattle.judge.proofs.row_sums.Given as goal
 
 -- what the two locals hold
-abbrev pub standing : ℕ → ℕ → RowSums
-standing products weights = record { products = to_z w64 products; weights = weights }
+abbrev pub standing : ℤ → ℕ → RowSums
+standing products weights = record { products = products; weights = weights }
 
 abbrev pub invariant-loop-j : goal.invariant-loop-j
 invariant-loop-j l =
-    (standing l.products l.weights ≡ running_sums (coefficients_from l.from l.coefficients) (tolerances_from l.from l.tolerances) (trial_figures l.figures) l.j)
+    (
+    standing l.products l.weights
+    ≡ running_sums (coefficients_from l.from l.coefficients) (tolerances_from l.from l.tolerances) (trial_figures l.figures) l.j
+    )
     × (l.j ≤ l.n)
-    × (nat_abs (to_z w64 l.products) ≤ l.j * 2 ^ 46)
+    × (nat_abs l.products ≤ l.j * 2 ^ 46)
     × (l.weights ≤ l.j * 2 ^ 47)
 
 abbrev pub decreases-loop-j : goal.decreases-loop-j

@@ -1,19 +1,16 @@
 -- `judge::weight` meets its contract: the product is at most 2 ^ 16 times 2 ^ 31. Assumes nothing.
-use Prim.Native.Nat.{◌*◌, ◌^◌, ◌≤◌}
+use Prim.Native.Nat.{ℕ, ◌*◌, ◌^◌, ◌≤◌}
 use lib.Dec.{lit≤}
 use mathlib.Core.Path.{refl}
 use native.Mathlib.Nat.{mul-le-mul, le_trans}
 use native.Mathlib.Omega.{arith}
 use Rattle.judge.proofs.weight.Goals as goal
 
+small : (e y : ℕ) → e ≤ 2 ^ 16 → y ≤ 2 ^ 31 → e * y ≤ 2 ^ 47
+small e y h k = le_trans (mul-le-mul h k) (lit≤ tt)
+
 pub overflow_mul-result : goal.overflow_mul-result
-overflow_mul-result c =
-    let small : c.args.tolerance * c.args.absolute ≤ 2 ^ 47 = let h : c.args.tolerance ≤ 2 ^ 16 = omega arith in
-    le_trans (mul-le-mul h c.requires) (lit≤ tt) in
-    let s = small in omega arith
+overflow_mul-result c = omega (arith, small c.args.tolerance c.args.absolute (omega arith) c.requires)
 
 pub returns : goal.returns
-returns c =
-    let small : c.args.tolerance * c.args.absolute ≤ 2 ^ 47 = let h : c.args.tolerance ≤ 2 ^ 16 = omega arith in
-    le_trans (mul-le-mul h c.requires) (lit≤ tt) in
-    (refl, small)
+returns c = (refl, small c.args.tolerance c.args.absolute (omega arith) c.requires)
