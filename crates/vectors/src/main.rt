@@ -26,8 +26,10 @@
 
 ghost use Rattle.std.specs.Prelude.{◌≤◌};
 
-use libc::STDOUT_FILENO;
 use outcome::Outcome;
+use std::fs::File;
+use std::io;
+use std::io::Read;
 
 const LONGEST_INPUT: usize = 600;
 
@@ -102,18 +104,17 @@ struct Tally {
     complete: bool,
 }
 
-// Fills buf from the file, and answers whether there was enough.
-fn read_exactly(fd: i32, buf: &mut [u8]) -> bool {
-    let wanted = buf.len();
-    io::read_full(fd, buf) == wanted
+// Fills buf from the file, and answers whether there was enough. A file that cannot be read on holds no more.
+fn read_exactly(file: &mut File, buf: &mut [u8]) -> bool {
+    file.read_exact(buf).is_ok()
 }
 
 // Fills the first count bytes of buf from the file, and answers whether it has so many and there was enough.
-fn read_front(fd: i32, count: usize, buf: &mut [u8]) -> bool {
+fn read_front(file: &mut File, count: usize, buf: &mut [u8]) -> bool {
     if buf.len() < count {
         return false;
     }
-    read_exactly(fd, &mut buf[..count])
+    read_exactly(file, &mut buf[..count])
 }
 
 // Whether an outcome is of this kind and has this number.
@@ -125,11 +126,11 @@ fn same_outcome(outcome: Outcome, kind: u8, number: usize) -> bool {
 }
 
 fn same_buffers(a: &[u8; LONGEST_BUFFER], b: &[u8; LONGEST_BUFFER]) -> bool {
-    check::same(a, b)
+    a == b
 }
 
 fn same_texts(a: &[u8; TEXT_ROOM], b: &[u8; TEXT_ROOM]) -> bool {
-    check::same(a, b)
+    a == b
 }
 
 fn agreement(same: bool) -> Item {
@@ -146,16 +147,16 @@ fn result_bytes(stream: Stream, count: u16) -> usize {
 }
 
 // Reads what a call comes to.
-fn read_expected(fd: i32, stream: Stream) -> Expected {
+fn read_expected(file: &mut File, stream: Stream) -> Expected {
     let mut head = [0u8; 5];
-    let begun = read_exactly(fd, &mut head);
+    let begun = read_exactly(file, &mut head);
     let length = bigendian::read_u16(&head, 0) as usize;
     let kind = head[2];
     let number = bigendian::read_u16(&head, 3);
     let mut buffer = [UNTOUCHED; LONGEST_BUFFER];
     let mut complete = begun && kind <= REFUSAL;
     if complete && kind == COUNT {
-        complete = read_front(fd, result_bytes(stream, number), &mut buffer);
+        complete = read_front(file, result_bytes(stream, number), &mut buffer);
     }
     Expected {
         complete,
@@ -184,8 +185,8 @@ fn call(stream: Stream, input: &[u8], out: &mut [u8]) -> Outcome {
 }
 
 // Calls on the first size bytes of inputs, and compares.
-fn compare_call(fd: i32, stream: Stream, inputs: &[u8], size: usize) -> Item {
-    let expected = read_expected(fd, stream);
+fn compare_call(file: &mut File, stream: Stream, inputs: &[u8], size: usize) -> Item {
+    let expected = read_expected(file, stream);
     let length = expected.length;
     if !expected.complete {
         return Item::Malformed;
@@ -209,8 +210,8 @@ fn list_bytes(list: &[i16; MOST_FIGURES]) -> [u8; LONGEST_BUFFER] {
 }
 
 // Reads the matrix in the first size bytes of inputs, and compares the bytes of the list, with its places that were not lent.
-fn compare_matrix_read(fd: i32, inputs: &[u8], size: usize) -> Item {
-    let expected = read_expected(fd, Stream::MatrixReads);
+fn compare_matrix_read(file: &mut File, inputs: &[u8], size: usize) -> Item {
+    let expected = read_expected(file, Stream::MatrixReads);
     let places = expected.length;
     if !expected.complete {
         return Item::Malformed;
@@ -228,14 +229,14 @@ fn compare_matrix_read(fd: i32, inputs: &[u8], size: usize) -> Item {
 }
 
 // Prints the verdict of the first size bytes of inputs, and compares it with the text that follows.
-fn compare_text(fd: i32, inputs: &[u8], size: usize) -> Item {
+fn compare_text(file: &mut File, inputs: &[u8], size: usize) -> Item {
     let mut head = [0u8; 2];
-    if !read_exactly(fd, &mut head) {
+    if !read_exactly(file, &mut head) {
         return Item::Malformed;
     }
     let length = bigendian::read_u16(&head, 0) as usize;
     let mut expected = [UNTOUCHED; TEXT_ROOM];
-    if !read_front(fd, length, &mut expected) {
+    if !read_front(file, length, &mut expected) {
         return Item::Malformed;
     }
     if inputs.len() < size {
@@ -250,11 +251,11 @@ fn compare_text(fd: i32, inputs: &[u8], size: usize) -> Item {
 }
 
 // The count of a list, where it is one.
-fn read_count(fd: i32) -> usize
+fn read_count(file: &mut File) -> usize
     ensures { result ≤ 80 }
 {
     let mut byte = [0u8; 1];
-    if !read_exactly(fd, &mut byte) {
+    if !read_exactly(file, &mut byte) {
         return 0;
     }
     let count = byte[0];
@@ -266,60 +267,60 @@ fn read_count(fd: i32) -> usize
 
 // Lists of figures: how many were read, which is none of a list that is malformed; what follows such a list then does not fit.
 
-fn read_i16s(fd: i32, out: &mut [i16]) -> usize
+fn read_i16s(file: &mut File, out: &mut [i16]) -> usize
     ensures { result ≤ 80 }
 {
-    let count = read_count(fd);
+    let count = read_count(file);
     if out.len() < count {
         return 0;
     }
     let mut bytes = [0u8; SHORT_LIST];
-    if !read_front(fd, 2 * count, &mut bytes) {
+    if !read_front(file, 2 * count, &mut bytes) {
         return 0;
     }
     figures::read_i16s(&bytes, 0, NO_LIMIT, &mut out[..count]);
     count
 }
 
-fn read_u16s(fd: i32, out: &mut [u16]) -> usize
+fn read_u16s(file: &mut File, out: &mut [u16]) -> usize
     ensures { result ≤ 80 }
 {
-    let count = read_count(fd);
+    let count = read_count(file);
     if out.len() < count {
         return 0;
     }
     let mut bytes = [0u8; SHORT_LIST];
-    if !read_front(fd, 2 * count, &mut bytes) {
+    if !read_front(file, 2 * count, &mut bytes) {
         return 0;
     }
     figures::read_u16s(&bytes, 0, NO_LIMIT, &mut out[..count]);
     count
 }
 
-fn read_i32s(fd: i32, out: &mut [i32]) -> usize
+fn read_i32s(file: &mut File, out: &mut [i32]) -> usize
     ensures { result ≤ 80 }
 {
-    let count = read_count(fd);
+    let count = read_count(file);
     if out.len() < count {
         return 0;
     }
     let mut bytes = [0u8; LONG_LIST];
-    if !read_front(fd, 4 * count, &mut bytes) {
+    if !read_front(file, 4 * count, &mut bytes) {
         return 0;
     }
     figures::read_i32s(&bytes, 0, NO_LIMIT, &mut out[..count]);
     count
 }
 
-fn read_u32s(fd: i32, out: &mut [u32]) -> usize
+fn read_u32s(file: &mut File, out: &mut [u32]) -> usize
     ensures { result ≤ 80 }
 {
-    let count = read_count(fd);
+    let count = read_count(file);
     if out.len() < count {
         return 0;
     }
     let mut bytes = [0u8; LONG_LIST];
-    if !read_front(fd, 4 * count, &mut bytes) {
+    if !read_front(file, 4 * count, &mut bytes) {
         return 0;
     }
     figures::read_u32s(&bytes, 0, NO_LIMIT, &mut out[..count]);
@@ -327,18 +328,18 @@ fn read_u32s(fd: i32, out: &mut [u32]) -> usize
 }
 
 // Writes the case with this n, e and K and the lists that follow, and compares.
-fn compare_write(fd: i32, n: u8, exponent: u8, rounds: u8) -> Item {
+fn compare_write(file: &mut File, n: u8, exponent: u8, rounds: u8) -> Item {
     let mut coefficients = [0i16; MOST_FIGURES];
     let mut tolerances = [0u16; MOST_FIGURES];
     let mut right_sides = [0i32; MOST_FIGURES];
     let mut right_tolerances = [0u32; MOST_FIGURES];
     let mut trial = [0i32; MOST_FIGURES];
-    let a = read_i16s(fd, &mut coefficients);
-    let e = read_u16s(fd, &mut tolerances);
-    let b = read_i32s(fd, &mut right_sides);
-    let f = read_u32s(fd, &mut right_tolerances);
-    let y = read_i32s(fd, &mut trial);
-    let expected = read_expected(fd, Stream::Writes);
+    let a = read_i16s(file, &mut coefficients);
+    let e = read_u16s(file, &mut tolerances);
+    let b = read_i32s(file, &mut right_sides);
+    let f = read_u32s(file, &mut right_tolerances);
+    let y = read_i32s(file, &mut trial);
+    let expected = read_expected(file, Stream::Writes);
     let length = expected.length;
     if !expected.complete {
         return Item::Malformed;
@@ -362,10 +363,10 @@ fn compare_write(fd: i32, n: u8, exponent: u8, rounds: u8) -> Item {
 }
 
 // Writes the matrix with this n and the coefficients that follow, and compares.
-fn compare_matrix_write(fd: i32, n: usize) -> Item {
+fn compare_matrix_write(file: &mut File, n: usize) -> Item {
     let mut coefficients = [0i16; MOST_FIGURES];
-    let count = read_i16s(fd, &mut coefficients);
-    let expected = read_expected(fd, Stream::MatrixWrites);
+    let count = read_i16s(file, &mut coefficients);
+    let expected = read_expected(file, Stream::MatrixWrites);
     let length = expected.length;
     if !expected.complete {
         return Item::Malformed;
@@ -379,60 +380,60 @@ fn compare_matrix_write(fd: i32, n: usize) -> Item {
 }
 
 // The end of the stream, if nothing is left of the file.
-fn ended(fd: i32) -> Item {
+fn ended(file: &mut File) -> Item {
     let mut byte = [0u8; 1];
-    if io::read_full(fd, &mut byte) == 0 {
-        Item::End
-    } else {
+    if read_exactly(file, &mut byte) {
         Item::Malformed
+    } else {
+        Item::End
     }
 }
 
 // Reads an input of this size, and compares.
-fn compare_input(fd: i32, stream: Stream, size: usize) -> Item {
+fn compare_input(file: &mut File, stream: Stream, size: usize) -> Item {
     let mut inputs = [0u8; LONGEST_INPUT];
-    if !read_front(fd, size, &mut inputs) {
+    if !read_front(file, size, &mut inputs) {
         return Item::Malformed;
     }
     match stream {
-        Stream::Texts => compare_text(fd, &inputs, size),
-        Stream::MatrixReads => compare_matrix_read(fd, &inputs, size),
-        _ => compare_call(fd, stream, &inputs, size),
+        Stream::Texts => compare_text(file, &inputs, size),
+        Stream::MatrixReads => compare_matrix_read(file, &inputs, size),
+        _ => compare_call(file, stream, &inputs, size),
     }
 }
 
 // Reads the next input, or the next matrix to be written, or the end of the stream.
-fn next_input(fd: i32, stream: Stream) -> Item {
+fn next_input(file: &mut File, stream: Stream) -> Item {
     let mut head = [0u8; 2];
-    if !read_exactly(fd, &mut head) {
+    if !read_exactly(file, &mut head) {
         return Item::Malformed;
     }
     let number = bigendian::read_u16(&head, 0) as usize;
     if number == END_MARK {
-        return ended(fd);
+        return ended(file);
     }
     match stream {
-        Stream::MatrixWrites => compare_matrix_write(fd, number),
-        _ => compare_input(fd, stream, number),
+        Stream::MatrixWrites => compare_matrix_write(file, number),
+        _ => compare_input(file, stream, number),
     }
 }
 
 // Reads the next call of the case writer or the end of the stream.
-fn next_write(fd: i32) -> Item {
+fn next_write(file: &mut File) -> Item {
     let mut head = [0u8; 3];
-    if !read_exactly(fd, &mut head) {
+    if !read_exactly(file, &mut head) {
         return Item::Malformed;
     }
     if head[0] == END_BYTE && head[1] == END_BYTE {
-        return ended(fd);
+        return ended(file);
     }
-    compare_write(fd, head[0], head[1], head[2])
+    compare_write(file, head[0], head[1], head[2])
 }
 
-fn next_item(fd: i32, stream: Stream) -> Item {
+fn next_item(file: &mut File, stream: Stream) -> Item {
     match stream {
-        Stream::Writes => next_write(fd),
-        _ => next_input(fd, stream),
+        Stream::Writes => next_write(file),
+        _ => next_input(file, stream),
     }
 }
 
@@ -446,13 +447,11 @@ fn one_more(count: u64) -> u64 {
 }
 
 // Compares every result of the file.
-fn compare_all(fd: i32, stream: Stream) -> Tally {
-    let mut results = 0;
+fn compare_all(file: &mut File, stream: Stream) -> Tally {
     let mut agree = 0;
     let mut first_difference = 0;
-    while results < MOST_RESULTS {
-        let item = next_item(fd, stream);
-        match item {
+    for results in 0..MOST_RESULTS {
+        match next_item(file, stream) {
             Item::Agrees => agree = one_more(agree),
             Item::Differs => {
                 if first_difference == 0 {
@@ -467,12 +466,18 @@ fn compare_all(fd: i32, stream: Stream) -> Tally {
                     complete: true,
                 };
             }
-            Item::Malformed => break,
+            Item::Malformed => {
+                return Tally {
+                    results,
+                    agree,
+                    first_difference,
+                    complete: false,
+                };
+            }
         }
-        results += 1;
     }
     Tally {
-        results,
+        results: MOST_RESULTS,
         agree,
         first_difference,
         complete: false,
@@ -480,67 +485,50 @@ fn compare_all(fd: i32, stream: Stream) -> Tally {
 }
 
 // Prints of what the stream holds results.
-fn print_kind(stream: Stream) {
+fn print_kind(rt: &impl Print, stream: Stream) -> io::Result<()> {
     match stream {
-        Stream::Records => {
-            io::write_all(STDOUT_FILENO, b" results agree");
-        }
-        Stream::Soundings => {
-            io::write_all(STDOUT_FILENO, b" soundings agree");
-        }
-        Stream::Texts => {
-            io::write_all(STDOUT_FILENO, b" printed verdicts agree");
-        }
-        Stream::Writes => {
-            io::write_all(STDOUT_FILENO, b" written cases agree");
-        }
-        Stream::MatrixReads => {
-            io::write_all(STDOUT_FILENO, b" matrix readings agree");
-        }
-        Stream::MatrixWrites => {
-            io::write_all(STDOUT_FILENO, b" written matrices agree");
-        }
+        Stream::Records => rt.print(" results agree"),
+        Stream::Soundings => rt.print(" soundings agree"),
+        Stream::Texts => rt.print(" printed verdicts agree"),
+        Stream::Writes => rt.print(" written cases agree"),
+        Stream::MatrixReads => rt.print(" matrix readings agree"),
+        Stream::MatrixWrites => rt.print(" written matrices agree"),
     }
 }
 
 // Prints `A of N results agree`, or the same of what the other streams hold, then the number of the first that does not, and the place where a
 // malformed stream was left.
-fn print(t: Tally, stream: Stream) {
-    io::print_decimal(STDOUT_FILENO, t.agree);
-    io::write_all(STDOUT_FILENO, b" of ");
-    io::print_decimal(STDOUT_FILENO, t.results);
-    print_kind(stream);
+fn print(rt: &impl Print, t: Tally, stream: Stream) -> io::Result<()> {
+    print!(rt; "{} of {}", t.agree, t.results)?;
+    print_kind(rt, stream)?;
     if 0 < t.first_difference {
-        io::write_all(STDOUT_FILENO, b"; the first that differs is number ");
-        io::print_decimal(STDOUT_FILENO, t.first_difference);
+        print!(rt; "; the first that differs is number {}", t.first_difference)?;
     }
     if !t.complete {
-        io::write_all(STDOUT_FILENO, b"; the file is malformed after them");
+        rt.print("; the file is malformed after them")?;
+    }
+    Ok(())
+}
+
+// Compares the results of a file and prints how many agree, or why it cannot be opened.
+fn run(rt: &HostRuntime, path: &str, stream: Stream) -> io::Result<()> {
+    match File::open(rt, path) {
+        Ok(mut file) => print(rt, compare_all(&mut file, stream), stream),
+        Err(error) => eprintln!(rt; "{path}: {error}"),
     }
 }
 
-// Compares the results of a file and prints how many agree.
-fn run(path: &[u8], stream: Stream) {
-    let fd = os::open_read(path);
-    if fd < 0 {
-        os::fail(path);
-        return;
-    }
-    print(compare_all(fd, stream), stream);
-    libc::close(fd);
-}
-
-fn main() {
-    run(b"vectors.bin", Stream::Records);
-    io::write_all(STDOUT_FILENO, b", ");
-    run(b"soundings.bin", Stream::Soundings);
-    io::write_all(STDOUT_FILENO, b", ");
-    run(b"texts.bin", Stream::Texts);
-    io::write_all(STDOUT_FILENO, b", ");
-    run(b"writes.bin", Stream::Writes);
-    io::write_all(STDOUT_FILENO, b", ");
-    run(b"matrix_reads.bin", Stream::MatrixReads);
-    io::write_all(STDOUT_FILENO, b", ");
-    run(b"matrix_writes.bin", Stream::MatrixWrites);
-    io::write_all(STDOUT_FILENO, b"\n");
+fn main(rt: HostRuntime) -> io::Result<()> {
+    run(&rt, "vectors.bin", Stream::Records)?;
+    rt.print(", ")?;
+    run(&rt, "soundings.bin", Stream::Soundings)?;
+    rt.print(", ")?;
+    run(&rt, "texts.bin", Stream::Texts)?;
+    rt.print(", ")?;
+    run(&rt, "writes.bin", Stream::Writes)?;
+    rt.print(", ")?;
+    run(&rt, "matrix_reads.bin", Stream::MatrixReads)?;
+    rt.print(", ")?;
+    run(&rt, "matrix_writes.bin", Stream::MatrixWrites)?;
+    rt.print("\n")
 }

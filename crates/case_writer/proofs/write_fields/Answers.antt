@@ -25,7 +25,7 @@ write_trial-requires c =
     let fine : Good case = good case c.requires.y_value in
     let size : end_at c.args.rounds c.args.n + end_size ≤ longest_case = omega (arith, length_encode case fine, longest case c.requires.y_value) in
     let head_stored : List ℕ = let g = c.args in sets c.write_header.new.out header_size (head_value g.n g.exponent g.rounds) in
-    let head_room : let g = c.args in HeadSmall g.n g.exponent g.rounds × (longest_case ≤ length g.out.now) × (length c.write_header.new.out ≡ length g.out.now) × (length head_stored ≡ length g.out.now) = (fine.limits, c.requires.longest_case_in_bounds, c.write_header.auto.1.1.0, simp length-set (omega (arith, c.write_header.auto))) in
+    let head_room : let g = c.args in HeadSmall g.n g.exponent g.rounds × (longest_case ≤ length g.out.now) × (length c.write_header.new.out ≡ length g.out.now) × (length head_stored ≡ length g.out.now) = (fine.limits, c.requires.longest_case_in_bounds, c.write_header.auto.out, simp length-set (omega (arith, c.write_header.auto))) in
     let placed : let g = c.args in TailPlaced g.rounds g.n c.tail_places-tail.result × (end_at g.rounds g.n + end_size ≤ longest_case) × (longest_case ≤ length g.out.now) × (length (put head_stored rows_at c.write_rows.new.out) ≡ length g.out.now) = (c.tail_places-tail.ensures, size, c.requires.longest_case_in_bounds, omega (arith, head_room, c.write_rows.auto)) in
     let g = fine in omega (arith, placed, g.limits.small, g.trial.count)
 
@@ -34,7 +34,7 @@ returns c =
     let case : Case = case_of_lists c.args.n c.args.exponent c.args.rounds c.args.a.now c.args.t.now c.args.b.now c.args.f.now c.args.y.now in
     let fine : Good case = good case c.requires.y_value in
     let head_stored : List ℕ = let g = c.args in sets c.write_header.new.out header_size (head_value g.n g.exponent g.rounds) in
-    let head_room : let g = c.args in HeadSmall g.n g.exponent g.rounds × (longest_case ≤ length g.out.now) × (length c.write_header.new.out ≡ length g.out.now) × (length head_stored ≡ length g.out.now) = (fine.limits, c.requires.longest_case_in_bounds, c.write_header.auto.1.1.0, simp length-set (omega (arith, c.write_header.auto))) in
+    let head_room : let g = c.args in HeadSmall g.n g.exponent g.rounds × (longest_case ≤ length g.out.now) × (length c.write_header.new.out ≡ length g.out.now) × (length head_stored ≡ length g.out.now) = (fine.limits, c.requires.longest_case_in_bounds, c.write_header.auto.out, simp length-set (omega (arith, c.write_header.auto))) in
     let e = c in
     let t = e in
     let p = t in
@@ -55,7 +55,7 @@ overflow_cast-out c =
     let case : Case = case_of_lists c.args.n c.args.exponent c.args.rounds c.args.a.now c.args.t.now c.args.b.now c.args.f.now c.args.y.now in
     let fine : Good case = good case c.requires.y_value in
     let head_stored : List ℕ = let g = c.args in sets c.write_header.new.out header_size (head_value g.n g.exponent g.rounds) in
-    let head_room : let g = c.args in HeadSmall g.n g.exponent g.rounds × (longest_case ≤ length g.out.now) × (length c.write_header.new.out ≡ length g.out.now) × (length head_stored ≡ length g.out.now) = (fine.limits, c.requires.longest_case_in_bounds, c.write_header.auto.1.1.0, simp length-set (omega (arith, c.write_header.auto))) in
+    let head_room : let g = c.args in HeadSmall g.n g.exponent g.rounds × (longest_case ≤ length g.out.now) × (length c.write_header.new.out ≡ length g.out.now) × (length head_stored ≡ length g.out.now) = (fine.limits, c.requires.longest_case_in_bounds, c.write_header.auto.out, simp length-set (omega (arith, c.write_header.auto))) in
     omega (arith, head_room)
 
 pub overflow_cast-out-2 : goal.overflow_cast-out-2
@@ -63,7 +63,7 @@ overflow_cast-out-2 c =
     let case : Case = case_of_lists c.args.n c.args.exponent c.args.rounds c.args.a.now c.args.t.now c.args.b.now c.args.f.now c.args.y.now in
     let fine : Good case = good case c.requires.y_value in
     let head_stored : List ℕ = let g = c.args in sets c.write_header.new.out header_size (head_value g.n g.exponent g.rounds) in
-    let head_room : let g = c.args in HeadSmall g.n g.exponent g.rounds × (longest_case ≤ length g.out.now) × (length c.write_header.new.out ≡ length g.out.now) × (length head_stored ≡ length g.out.now) = (fine.limits, c.requires.longest_case_in_bounds, c.write_header.auto.1.1.0, simp length-set (omega (arith, c.write_header.auto))) in
+    let head_room : let g = c.args in HeadSmall g.n g.exponent g.rounds × (longest_case ≤ length g.out.now) × (length c.write_header.new.out ≡ length g.out.now) × (length head_stored ≡ length g.out.now) = (fine.limits, c.requires.longest_case_in_bounds, c.write_header.auto.out, simp length-set (omega (arith, c.write_header.auto))) in
     omega (arith, head_room)
 
 pub overflow_cast-out-3 : goal.overflow_cast-out-3
@@ -71,7 +71,7 @@ overflow_cast-out-3 c =
     let case : Case = case_of_lists c.args.n c.args.exponent c.args.rounds c.args.a.now c.args.t.now c.args.b.now c.args.f.now c.args.y.now in
     let fine : Good case = good case c.requires.y_value in
     let head_stored : List ℕ = let g = c.args in sets c.write_header.new.out header_size (head_value g.n g.exponent g.rounds) in
-    let head_room : let g = c.args in HeadSmall g.n g.exponent g.rounds × (longest_case ≤ length g.out.now) × (length c.write_header.new.out ≡ length g.out.now) × (length head_stored ≡ length g.out.now) = (fine.limits, c.requires.longest_case_in_bounds, c.write_header.auto.1.1.0, simp length-set (omega (arith, c.write_header.auto))) in
+    let head_room : let g = c.args in HeadSmall g.n g.exponent g.rounds × (longest_case ≤ length g.out.now) × (length c.write_header.new.out ≡ length g.out.now) × (length head_stored ≡ length g.out.now) = (fine.limits, c.requires.longest_case_in_bounds, c.write_header.auto.out, simp length-set (omega (arith, c.write_header.auto))) in
     omega (arith, head_room)
 
 pub tail_places-tail-requires : goal.tail_places-tail-requires
@@ -86,7 +86,7 @@ slice_bounds-write_trial-count c =
     let fine : Good case = good case c.requires.y_value in
     let size : end_at c.args.rounds c.args.n + end_size ≤ longest_case = omega (arith, length_encode case fine, longest case c.requires.y_value) in
     let head_stored : List ℕ = let g = c.args in sets c.write_header.new.out header_size (head_value g.n g.exponent g.rounds) in
-    let head_room : let g = c.args in HeadSmall g.n g.exponent g.rounds × (longest_case ≤ length g.out.now) × (length c.write_header.new.out ≡ length g.out.now) × (length head_stored ≡ length g.out.now) = (fine.limits, c.requires.longest_case_in_bounds, c.write_header.auto.1.1.0, simp length-set (omega (arith, c.write_header.auto))) in
+    let head_room : let g = c.args in HeadSmall g.n g.exponent g.rounds × (longest_case ≤ length g.out.now) × (length c.write_header.new.out ≡ length g.out.now) × (length head_stored ≡ length g.out.now) = (fine.limits, c.requires.longest_case_in_bounds, c.write_header.auto.out, simp length-set (omega (arith, c.write_header.auto))) in
     let placed : let g = c.args in TailPlaced g.rounds g.n c.tail_places-tail.result × (end_at g.rounds g.n + end_size ≤ longest_case) × (longest_case ≤ length g.out.now) × (length (put head_stored rows_at c.write_rows.new.out) ≡ length g.out.now) = (c.tail_places-tail.ensures, size, c.requires.longest_case_in_bounds, omega (arith, head_room, c.write_rows.auto)) in
     omega (arith, placed)
 
@@ -96,7 +96,7 @@ slice_bounds-write_trial-start c =
     let fine : Good case = good case c.requires.y_value in
     let size : end_at c.args.rounds c.args.n + end_size ≤ longest_case = omega (arith, length_encode case fine, longest case c.requires.y_value) in
     let head_stored : List ℕ = let g = c.args in sets c.write_header.new.out header_size (head_value g.n g.exponent g.rounds) in
-    let head_room : let g = c.args in HeadSmall g.n g.exponent g.rounds × (longest_case ≤ length g.out.now) × (length c.write_header.new.out ≡ length g.out.now) × (length head_stored ≡ length g.out.now) = (fine.limits, c.requires.longest_case_in_bounds, c.write_header.auto.1.1.0, simp length-set (omega (arith, c.write_header.auto))) in
+    let head_room : let g = c.args in HeadSmall g.n g.exponent g.rounds × (longest_case ≤ length g.out.now) × (length c.write_header.new.out ≡ length g.out.now) × (length head_stored ≡ length g.out.now) = (fine.limits, c.requires.longest_case_in_bounds, c.write_header.auto.out, simp length-set (omega (arith, c.write_header.auto))) in
     let placed : let g = c.args in TailPlaced g.rounds g.n c.tail_places-tail.result × (end_at g.rounds g.n + end_size ≤ longest_case) × (longest_case ≤ length g.out.now) × (length (put head_stored rows_at c.write_rows.new.out) ≡ length g.out.now) = (c.tail_places-tail.ensures, size, c.requires.longest_case_in_bounds, omega (arith, head_room, c.write_rows.auto)) in
     omega (arith, placed)
 
@@ -106,7 +106,7 @@ slice_bounds-write_end-count c =
     let fine : Good case = good case c.requires.y_value in
     let size : end_at c.args.rounds c.args.n + end_size ≤ longest_case = omega (arith, length_encode case fine, longest case c.requires.y_value) in
     let head_stored : List ℕ = let g = c.args in sets c.write_header.new.out header_size (head_value g.n g.exponent g.rounds) in
-    let head_room : let g = c.args in HeadSmall g.n g.exponent g.rounds × (longest_case ≤ length g.out.now) × (length c.write_header.new.out ≡ length g.out.now) × (length head_stored ≡ length g.out.now) = (fine.limits, c.requires.longest_case_in_bounds, c.write_header.auto.1.1.0, simp length-set (omega (arith, c.write_header.auto))) in
+    let head_room : let g = c.args in HeadSmall g.n g.exponent g.rounds × (longest_case ≤ length g.out.now) × (length c.write_header.new.out ≡ length g.out.now) × (length head_stored ≡ length g.out.now) = (fine.limits, c.requires.longest_case_in_bounds, c.write_header.auto.out, simp length-set (omega (arith, c.write_header.auto))) in
     let placed : let g = c.args in TailPlaced g.rounds g.n c.tail_places-tail.result × (end_at g.rounds g.n + end_size ≤ longest_case) × (longest_case ≤ length g.out.now) × (length (put head_stored rows_at c.write_rows.new.out) ≡ length g.out.now) = (c.tail_places-tail.ensures, size, c.requires.longest_case_in_bounds, omega (arith, head_room, c.write_rows.auto)) in
     let w = c in omega (arith, placed, w.write_trial.auto)
 
@@ -116,7 +116,7 @@ slice_bounds-write_end-start c =
     let fine : Good case = good case c.requires.y_value in
     let size : end_at c.args.rounds c.args.n + end_size ≤ longest_case = omega (arith, length_encode case fine, longest case c.requires.y_value) in
     let head_stored : List ℕ = let g = c.args in sets c.write_header.new.out header_size (head_value g.n g.exponent g.rounds) in
-    let head_room : let g = c.args in HeadSmall g.n g.exponent g.rounds × (longest_case ≤ length g.out.now) × (length c.write_header.new.out ≡ length g.out.now) × (length head_stored ≡ length g.out.now) = (fine.limits, c.requires.longest_case_in_bounds, c.write_header.auto.1.1.0, simp length-set (omega (arith, c.write_header.auto))) in
+    let head_room : let g = c.args in HeadSmall g.n g.exponent g.rounds × (longest_case ≤ length g.out.now) × (length c.write_header.new.out ≡ length g.out.now) × (length head_stored ≡ length g.out.now) = (fine.limits, c.requires.longest_case_in_bounds, c.write_header.auto.out, simp length-set (omega (arith, c.write_header.auto))) in
     let placed : let g = c.args in TailPlaced g.rounds g.n c.tail_places-tail.result × (end_at g.rounds g.n + end_size ≤ longest_case) × (longest_case ≤ length g.out.now) × (length (put head_stored rows_at c.write_rows.new.out) ≡ length g.out.now) = (c.tail_places-tail.ensures, size, c.requires.longest_case_in_bounds, omega (arith, head_room, c.write_rows.auto)) in
     let w = c in omega (arith, placed, w.write_trial.auto)
 
@@ -126,7 +126,7 @@ write_end-requires c =
     let fine : Good case = good case c.requires.y_value in
     let size : end_at c.args.rounds c.args.n + end_size ≤ longest_case = omega (arith, length_encode case fine, longest case c.requires.y_value) in
     let head_stored : List ℕ = let g = c.args in sets c.write_header.new.out header_size (head_value g.n g.exponent g.rounds) in
-    let head_room : let g = c.args in HeadSmall g.n g.exponent g.rounds × (longest_case ≤ length g.out.now) × (length c.write_header.new.out ≡ length g.out.now) × (length head_stored ≡ length g.out.now) = (fine.limits, c.requires.longest_case_in_bounds, c.write_header.auto.1.1.0, simp length-set (omega (arith, c.write_header.auto))) in
+    let head_room : let g = c.args in HeadSmall g.n g.exponent g.rounds × (longest_case ≤ length g.out.now) × (length c.write_header.new.out ≡ length g.out.now) × (length head_stored ≡ length g.out.now) = (fine.limits, c.requires.longest_case_in_bounds, c.write_header.auto.out, simp length-set (omega (arith, c.write_header.auto))) in
     let placed : let g = c.args in TailPlaced g.rounds g.n c.tail_places-tail.result × (end_at g.rounds g.n + end_size ≤ longest_case) × (longest_case ≤ length g.out.now) × (length (put head_stored rows_at c.write_rows.new.out) ≡ length g.out.now) = (c.tail_places-tail.ensures, size, c.requires.longest_case_in_bounds, omega (arith, head_room, c.write_rows.auto)) in
     let w = c in omega (arith, placed, w.write_trial.auto)
 
@@ -136,7 +136,7 @@ overflow_add-result c =
     let fine : Good case = good case c.requires.y_value in
     let size : end_at c.args.rounds c.args.n + end_size ≤ longest_case = omega (arith, length_encode case fine, longest case c.requires.y_value) in
     let head_stored : List ℕ = let g = c.args in sets c.write_header.new.out header_size (head_value g.n g.exponent g.rounds) in
-    let head_room : let g = c.args in HeadSmall g.n g.exponent g.rounds × (longest_case ≤ length g.out.now) × (length c.write_header.new.out ≡ length g.out.now) × (length head_stored ≡ length g.out.now) = (fine.limits, c.requires.longest_case_in_bounds, c.write_header.auto.1.1.0, simp length-set (omega (arith, c.write_header.auto))) in
+    let head_room : let g = c.args in HeadSmall g.n g.exponent g.rounds × (longest_case ≤ length g.out.now) × (length c.write_header.new.out ≡ length g.out.now) × (length head_stored ≡ length g.out.now) = (fine.limits, c.requires.longest_case_in_bounds, c.write_header.auto.out, simp length-set (omega (arith, c.write_header.auto))) in
     let placed : let g = c.args in TailPlaced g.rounds g.n c.tail_places-tail.result × (end_at g.rounds g.n + end_size ≤ longest_case) × (longest_case ≤ length g.out.now) × (length (put head_stored rows_at c.write_rows.new.out) ≡ length g.out.now) = (c.tail_places-tail.ensures, size, c.requires.longest_case_in_bounds, omega (arith, head_room, c.write_rows.auto)) in
     omega (arith, placed)
 
@@ -146,7 +146,7 @@ write_rows-requires-clause-n_in_bounds c =
     let fine : Good case = good case c.requires.y_value in
     let size : end_at c.args.rounds c.args.n + end_size ≤ longest_case = omega (arith, length_encode case fine, longest case c.requires.y_value) in
     let head_stored : List ℕ = let g = c.args in sets c.write_header.new.out header_size (head_value g.n g.exponent g.rounds) in
-    let head_room : let g = c.args in HeadSmall g.n g.exponent g.rounds × (longest_case ≤ length g.out.now) × (length c.write_header.new.out ≡ length g.out.now) × (length head_stored ≡ length g.out.now) = (fine.limits, c.requires.longest_case_in_bounds, c.write_header.auto.1.1.0, simp length-set (omega (arith, c.write_header.auto))) in
+    let head_room : let g = c.args in HeadSmall g.n g.exponent g.rounds × (longest_case ≤ length g.out.now) × (length c.write_header.new.out ≡ length g.out.now) × (length head_stored ≡ length g.out.now) = (fine.limits, c.requires.longest_case_in_bounds, c.write_header.auto.out, simp length-set (omega (arith, c.write_header.auto))) in
     let s = c in
     omega (arith, counts fine.rows, size, head_room)
 
@@ -156,6 +156,6 @@ write_rows-requires-clause-rows_room c =
     let fine : Good case = good case c.requires.y_value in
     let size : end_at c.args.rounds c.args.n + end_size ≤ longest_case = omega (arith, length_encode case fine, longest case c.requires.y_value) in
     let head_stored : List ℕ = let g = c.args in sets c.write_header.new.out header_size (head_value g.n g.exponent g.rounds) in
-    let head_room : let g = c.args in HeadSmall g.n g.exponent g.rounds × (longest_case ≤ length g.out.now) × (length c.write_header.new.out ≡ length g.out.now) × (length head_stored ≡ length g.out.now) = (fine.limits, c.requires.longest_case_in_bounds, c.write_header.auto.1.1.0, simp length-set (omega (arith, c.write_header.auto))) in
+    let head_room : let g = c.args in HeadSmall g.n g.exponent g.rounds × (longest_case ≤ length g.out.now) × (length c.write_header.new.out ≡ length g.out.now) × (length head_stored ≡ length g.out.now) = (fine.limits, c.requires.longest_case_in_bounds, c.write_header.auto.out, simp length-set (omega (arith, c.write_header.auto))) in
     let s = c in
     omega (arith, counts fine.rows, size, head_room)
