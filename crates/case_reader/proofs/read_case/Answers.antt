@@ -6,7 +6,7 @@ use Rattle.case_reader.proofs.read_case.Goals as goal
 
 pub returns-in-Refused : goal.returns-in-Refused
 returns-in-Refused c =
-    refused_whole _ _ _ _ c.read_fields-head.ensures _ c.found-1.given.1 _ _ c.refused.ensures
+    refused_whole _ _ _ _ c.read_fields-head.ensures _ c.in-Refused.is _ _ c.refused.ensures
 
 pub returns : goal.returns
 returns c = accepted_whole _ _ _ _ c.read_fields-head.ensures c.in_default.is

@@ -31,9 +31,8 @@ returns-in-Refused-rows c =
     let head : CaseHead = c.read_head-head.result in
     let found : HeadFound s head = c.read_head-head.ensures in
     let fine : head.status ≡ Accepted = c.in_default.is in
-    let after_head_lem = c in
     let r = c in
-    let h = after_head_lem in
+    let h = c in
     rows_stop s head found fine _ _ _ r.read_rows-rows.ensures _ c.in-Refused-rows.is
 
 pub returns : goal.returns
@@ -42,10 +41,9 @@ returns c =
     let head : CaseHead = c.read_head-head.result in
     let found : HeadFound s head = c.read_head-head.ensures in
     let fine : head.status ≡ Accepted = c.in_default.is in
-    let after_head_lem = c in
     let t = c in
     let r = t in
-    let h = after_head_lem in
+    let h = c in
     tail_last s head found fine _ _ _ r.read_rows-rows.ensures t.in_default-rows.is _ c.read_tail.ensures
 
 pub read_tail-requires : goal.read_tail-requires
@@ -55,5 +53,4 @@ read_tail-requires c =
     let found : HeadFound s head = c.read_head-head.ensures in
     let fine : head.status ≡ Accepted = c.in_default.is in
     let few : head.n ≤ most_tanks = small s head found fine in
-    let after_head_lem = c in
-    omega (arith, few after_head_lem)
+    omega (arith, few)

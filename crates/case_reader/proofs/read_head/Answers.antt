@@ -24,15 +24,6 @@ returns-in-Refused c =
     let field : Checked head_tag head_length s 0 0 c.check_field-field.result = checked head_tag head_length s 0 refl refl c.check_field-field.ensures in
     answer_stops field.is _ c.in-Refused.is
 
-pub overflow_cast-n : goal.overflow_cast-n
-overflow_cast-n c = omega (arith, c.shared_slice_known-1.given (header_size + n_in))
-
-pub overflow_cast-exponent : goal.overflow_cast-exponent
-overflow_cast-exponent c = omega (arith, c.shared_slice_known-1.given (header_size + exponent_in))
-
-pub overflow_cast-rounds : goal.overflow_cast-rounds
-overflow_cast-rounds c = omega (arith, c.shared_slice_known-1.given (header_size + rounds_in))
-
 pub returns : goal.returns
 unfolding head_status
 returns c =

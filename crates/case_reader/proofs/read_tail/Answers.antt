@@ -26,41 +26,29 @@ returns-in-Refused c = answer_stops (read_status c.read_trial-trial.ensures) _ c
 pub returns-in-Refused-field : goal.returns-in-Refused-field
 unfolding end_status tail_status
 returns-in-Refused-field c =
-    let placed = c in
-    let told = placed in
-    let trial = told in
-    let start = trial in
-    let trial_fine : let g = start.args in trial_status g.rounds g.n (drop (rows_end g.n) g.s.now) ≡ Accepted = sym (read_status trial.read_trial-trial.ensures) ∙ told.in_default.is in
-    let field : let g = start.args in Checked end_tag end_length g.s.now (end_at g.rounds g.n) placed.tail_places-places.result.end c.check_field-field.result = let g = start.args in checked end_tag end_length g.s.now (end_at g.rounds g.n) placed.tail_places-places.ensures.end refl c.check_field-field.ensures in
-    let tail_is : let g = start.args in tail_status g.rounds g.n (drop (rows_end g.n) g.s.now) ≡ end_status (drop (end_at g.rounds g.n) g.s.now) = let g = start.args in
+    let trial_fine : let g = c.args in trial_status g.rounds g.n (drop (rows_end g.n) g.s.now) ≡ Accepted = sym (read_status c.read_trial-trial.ensures) ∙ c.in_default.is in
+    let field : let g = c.args in Checked end_tag end_length g.s.now (end_at g.rounds g.n) c.tail_places-places.result.end c.check_field-field.result = let g = c.args in checked end_tag end_length g.s.now (end_at g.rounds g.n) c.tail_places-places.ensures.end refl c.check_field-field.ensures in
+    let tail_is : let g = c.args in tail_status g.rounds g.n (drop (rows_end g.n) g.s.now) ≡ end_status (drop (end_at g.rounds g.n) g.s.now) = let g = c.args in
     rw (← (drop-drop (trial_size g.rounds g.n) (rows_end g.n) g.s.now)) (sym (first_goes_on _ _ trial_fine)) in
     let k = c in rw tail_is (answer_stops field.is _ c.in-Refused-field.is)
 
 pub overflow_sub-s : goal.overflow_sub-s
 overflow_sub-s c =
-    let placed = c in
-    let told = placed in
-    let trial = told in
-    let start = trial in
-    let field : let g = start.args in Checked end_tag end_length g.s.now (end_at g.rounds g.n) placed.tail_places-places.result.end c.check_field-field.result = let g = start.args in checked end_tag end_length g.s.now (end_at g.rounds g.n) placed.tail_places-places.ensures.end refl c.check_field-field.ensures in
+    let field : let g = c.args in Checked end_tag end_length g.s.now (end_at g.rounds g.n) c.tail_places-places.result.end c.check_field-field.result = let g = c.args in checked end_tag end_length g.s.now (end_at g.rounds g.n) c.tail_places-places.ensures.end refl c.check_field-field.ensures in
     let k = c in
-    omega (arith, placed.tail_places-places.ensures, field.room c.enum_told-in_default-field-1.given.1)
+    omega (arith, c.tail_places-places.ensures, field.room c.in_default-field.is)
 
 pub returns : goal.returns
 unfolding end_status tail_status
 returns c =
-    let placed = c in
-    let told = placed in
-    let trial = told in
-    let start = trial in
-    let trial_fine : let g = start.args in trial_status g.rounds g.n (drop (rows_end g.n) g.s.now) ≡ Accepted = sym (read_status trial.read_trial-trial.ensures) ∙ told.in_default.is in
-    let field : let g = start.args in Checked end_tag end_length g.s.now (end_at g.rounds g.n) placed.tail_places-places.result.end c.check_field-field.result = let g = start.args in checked end_tag end_length g.s.now (end_at g.rounds g.n) placed.tail_places-places.ensures.end refl c.check_field-field.ensures in
-    let tail_is : let g = start.args in tail_status g.rounds g.n (drop (rows_end g.n) g.s.now) ≡ end_status (drop (end_at g.rounds g.n) g.s.now) = let g = start.args in
+    let trial_fine : let g = c.args in trial_status g.rounds g.n (drop (rows_end g.n) g.s.now) ≡ Accepted = sym (read_status c.read_trial-trial.ensures) ∙ c.in_default.is in
+    let field : let g = c.args in Checked end_tag end_length g.s.now (end_at g.rounds g.n) c.tail_places-places.result.end c.check_field-field.result = let g = c.args in checked end_tag end_length g.s.now (end_at g.rounds g.n) c.tail_places-places.ensures.end refl c.check_field-field.ensures in
+    let tail_is : let g = c.args in tail_status g.rounds g.n (drop (rows_end g.n) g.s.now) ≡ end_status (drop (end_at g.rounds g.n) g.s.now) = let g = c.args in
     rw (← (drop-drop (trial_size g.rounds g.n) (rows_end g.n) g.s.now)) (sym (first_goes_on _ _ trial_fine)) in
     let k = c in
-    let g = start.args in
+    let g = c.args in
     let at = end_at g.rounds g.n in
-    let e = rw placed.tail_places-places.ensures.end at c.check.ensures in
+    let e = rw c.tail_places-places.ensures.end at c.check.ensures in
     let ends : check (eqb (length g.s.now - at) end_size) TrailingBytes ≡ end_status (drop at g.s.now) =
-    rw (← (length-drop at g.s.now)) (first_goes_on _ _ (sym field.is ∙ c.enum_told-in_default-field-1.given.1)) in
-    rw tail_is (record { number = e ∙ ap status_number ends; made = λ _. read_made trial.read_trial-trial.ensures told.in_default.is })
+    rw (← (length-drop at g.s.now)) (first_goes_on _ _ (sym field.is ∙ c.in_default-field.is)) in
+    rw tail_is (record { number = e ∙ ap status_number ends; made = λ _. read_made c.read_trial-trial.ensures c.in_default.is })

@@ -23,46 +23,25 @@ returns-then-rounds-ne0 c = let k = c.args.rounds in rw (no_trial_given k _ _ c.
 pub returns-in-Refused : goal.returns-in-Refused
 unfolding trial_status
 returns-in-Refused c =
-    let placed = c in
-    let start = placed in
-    let field : let g = start.args in Checked trial_tag (trial_length g.n) g.s.now (rows_end g.n) placed.tail_places-places.result.trial c.check_field-field.result = let g = start.args in let p = placed.tail_places-places.ensures in checked trial_tag (trial_length g.n) g.s.now (rows_end g.n) p.trial p.trial_len c.check_field-field.ensures in
+    let field : let g = c.args in Checked trial_tag (trial_length g.n) g.s.now (rows_end g.n) c.tail_places-places.result.trial c.check_field-field.result = let g = c.args in let p = c.tail_places-places.ensures in checked trial_tag (trial_length g.n) g.s.now (rows_end g.n) p.trial p.trial_len c.check_field-field.ensures in
     rw c.if-rounds-ne0.false (answer_stops field.is _ c.in-Refused.is)
-
-pub overflow_add-places : goal.overflow_add-places
-overflow_add-places c =
-    let placed = c in
-    let start = placed in
-    let field : let g = start.args in Checked trial_tag (trial_length g.n) g.s.now (rows_end g.n) placed.tail_places-places.result.trial c.check_field-field.result = let g = start.args in let p = placed.tail_places-places.ensures in checked trial_tag (trial_length g.n) g.s.now (rows_end g.n) p.trial p.trial_len c.check_field-field.ensures in
-    let k = c in
-    omega (arith, start.well_formed, placed.tail_places-places.ensures, field.room c.enum_told-in_default-1.given.1)
 
 pub read_i32s-fine-requires : goal.read_i32s-fine-requires
 read_i32s-fine-requires c =
-    let placed = c in
-    let start = placed in
-    let field : let g = start.args in Checked trial_tag (trial_length g.n) g.s.now (rows_end g.n) placed.tail_places-places.result.trial c.check_field-field.result = let g = start.args in let p = placed.tail_places-places.ensures in checked trial_tag (trial_length g.n) g.s.now (rows_end g.n) p.trial p.trial_len c.check_field-field.ensures in
-    let taken : length (take start.args.n start.args.y.now) ≡ start.args.n = length-take-le start.args.n start.args.y.now start.requires.room in
+    let field : let g = c.args in Checked trial_tag (trial_length g.n) g.s.now (rows_end g.n) c.tail_places-places.result.trial c.check_field-field.result = let g = c.args in let p = c.tail_places-places.ensures in checked trial_tag (trial_length g.n) g.s.now (rows_end g.n) p.trial p.trial_len c.check_field-field.ensures in
+    let taken : length (take c.args.n c.args.y.now) ≡ c.args.n = length-take-le c.args.n c.args.y.now c.requires.room in
     let k = c in
-    omega (arith, taken, placed.tail_places-places.ensures, field.room c.enum_told-in_default-1.given.1)
+    omega (arith, taken, c.tail_places-places.ensures, field.room c.in_default.is)
 
 pub returns : goal.returns
 unfolding trial_status trial_of
 returns c =
-    let placed = c in
-    let start = placed in
-    let field : let g = start.args in Checked trial_tag (trial_length g.n) g.s.now (rows_end g.n) placed.tail_places-places.result.trial c.check_field-field.result = let g = start.args in let p = placed.tail_places-places.ensures in checked trial_tag (trial_length g.n) g.s.now (rows_end g.n) p.trial p.trial_len c.check_field-field.ensures in
-    let taken : length (take start.args.n start.args.y.now) ≡ start.args.n = length-take-le start.args.n start.args.y.now start.requires.room in
+    let field : let g = c.args in Checked trial_tag (trial_length g.n) g.s.now (rows_end g.n) c.tail_places-places.result.trial c.check_field-field.result = let g = c.args in let p = c.tail_places-places.ensures in checked trial_tag (trial_length g.n) g.s.now (rows_end g.n) p.trial p.trial_len c.check_field-field.ensures in
+    let taken : length (take c.args.n c.args.y.now) ≡ c.args.n = length-take-le c.args.n c.args.y.now c.requires.room in
     let w = c in
     let k = w in
-    let g = start.args in
+    let g = c.args in
     let q = run_at trial_kind _ field.value taken w.read_i32s-fine.ensures in
     rw k.if-rounds-ne0.false
-    (answer_goes_on field.is OutsideLimits w.enum_told-in_default-1.given.1
+    (answer_goes_on field.is OutsideLimits w.in_default.is
     q.status (λ _. rw (q.made, length_items _ _ g.n (value_of (drop (rows_end g.n) g.s.now)))) c.check.ensures)
-
-pub slice_bounds-read_i32s-end-2 : goal.slice_bounds-read_i32s-end-2
-slice_bounds-read_i32s-end-2 c =
-    let placed = c in
-    let start = placed in
-    let taken : length (take start.args.n start.args.y.now) ≡ start.args.n = length-take-le start.args.n start.args.y.now start.requires.room in
-    sym taken

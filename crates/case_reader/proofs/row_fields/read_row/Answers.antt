@@ -26,8 +26,8 @@ use Rattle.case_reader.proofs.row_fields.read_row.Goals as goal
 row_answered : (r : Block) {a b : List ℤ} {t f : List ℕ} {b1 b2 b3 b4 : Bool}
     → RunRead (within_limit coefficient_limit) r.A b1 a
     → RunRead (up_to_limit tolerance_limit) r.E b2 t
-    → RunRead (within_limit right_side_limit) r.b-1 b3 b
-    → RunRead (up_to_limit right_tolerance_limit) r.f-1 b4 f
+    → RunRead (within_limit right_side_limit) r.b b3 b
+    → RunRead (up_to_limit right_tolerance_limit) r.f b4 f
     → ((b1 && (b2 && (b3 && b4))) ≡ rows_fine r) × (block a t b f ≡ r)
 unfolding rows_fine
 row_answered r w1 w2 w3 w4 = search (w1.made, w2.made, w3.made, w4.made)
@@ -35,29 +35,25 @@ row_answered r w1 w2 w3 w4 = search (w1.made, w2.made, w3.made, w4.made)
 pub returns-in-Refused : goal.returns-in-Refused
 unfolding row_status
 returns-in-Refused c =
-    let placed = c in
-    let start = placed in
-    let s : List ℕ = start.args.s.now in
-    let field : Checked row_tag (row_length start.args.n) s start.args.at start.args.at c.check_field-field.result = checked row_tag (row_length start.args.n) s start.args.at refl placed.row_places-row.ensures.len c.check_field-field.ensures in
+    let s : List ℕ = c.args.s.now in
+    let field : Checked row_tag (row_length c.args.n) s c.args.at c.args.at c.check_field-field.result = checked row_tag (row_length c.args.n) s c.args.at refl c.row_places-row.ensures.len c.check_field-field.ensures in
     answer_stops field.is _ c.in-Refused.is
 
 pub returns : goal.returns
 unfolding row_status row_of
 returns c =
-    let placed = c in
-    let start = placed in
-    let s : List ℕ = start.args.s.now in
-    let value : List ℕ = value_of (drop start.args.at s) in
-    let field : Checked row_tag (row_length start.args.n) s start.args.at start.args.at c.check_field-field.result = checked row_tag (row_length start.args.n) s start.args.at refl placed.row_places-row.ensures.len c.check_field-field.ensures in
-    let in_value : (q : ℕ) {p : ℕ} → p ≡ q → drop (start.args.at + header_size + p) s ≡ drop q value = λ q e. rw (e, ← (drop-drop q (start.args.at + header_size) s), field.value) in
-    let known : let h = c in let g = start.args in RowPlaced g.n placed.row_places-row.result × (g.at + row_size g.n ≤ length s) × RowLists g.n (block g.a.now g.t.now g.b.now g.f.now) × (length s < 2 ^ 64) = let h = c in (placed.row_places-row.ensures, field.room c.in_default.is, start.requires, omega (arith, start.well_formed)) in
+    let s : List ℕ = c.args.s.now in
+    let value : List ℕ = value_of (drop c.args.at s) in
+    let field : Checked row_tag (row_length c.args.n) s c.args.at c.args.at c.check_field-field.result = checked row_tag (row_length c.args.n) s c.args.at refl c.row_places-row.ensures.len c.check_field-field.ensures in
+    let in_value : (q : ℕ) {p : ℕ} → p ≡ q → drop (c.args.at + header_size + p) s ≡ drop q value = λ q e. rw (e, ← (drop-drop q (c.args.at + header_size) s), field.value) in
+    let known : let h = c in let g = c.args in RowPlaced g.n c.row_places-row.result × (g.at + row_size g.n ≤ length s) × RowLists g.n (block g.a.now g.t.now g.b.now g.f.now) × (length s < 2 ^ 64) = let h = c in (c.row_places-row.ensures, field.room c.in_default.is, c.requires, omega (arith, c.well_formed)) in
     let w4 = c in
     let w3 = w4 in
     let w2 = w3 in
     let w1 = w2 in
     let told = w1 in
     let h = told in
-    let g = start.args in
+    let g = c.args in
     let q = known in
     let l = q.2.counts in
     let w =
@@ -70,84 +66,56 @@ returns c =
 
 pub overflow_add-value : goal.overflow_add-value
 overflow_add-value c =
-    let placed = c in
-    let start = placed in
-    let s : List ℕ = start.args.s.now in
-    let field : Checked row_tag (row_length start.args.n) s start.args.at start.args.at c.check_field-field.result = checked row_tag (row_length start.args.n) s start.args.at refl placed.row_places-row.ensures.len c.check_field-field.ensures in
-    let known : let h = c in let g = start.args in RowPlaced g.n placed.row_places-row.result × (g.at + row_size g.n ≤ length s) × RowLists g.n (block g.a.now g.t.now g.b.now g.f.now) × (length s < 2 ^ 64) = let h = c in (placed.row_places-row.ensures, field.room c.in_default.is, start.requires, omega (arith, start.well_formed)) in
+    let s : List ℕ = c.args.s.now in
+    let field : Checked row_tag (row_length c.args.n) s c.args.at c.args.at c.check_field-field.result = checked row_tag (row_length c.args.n) s c.args.at refl c.row_places-row.ensures.len c.check_field-field.ensures in
+    let known : let h = c in let g = c.args in RowPlaced g.n c.row_places-row.result × (g.at + row_size g.n ≤ length s) × RowLists g.n (block g.a.now g.t.now g.b.now g.f.now) × (length s < 2 ^ 64) = let h = c in (c.row_places-row.ensures, field.room c.in_default.is, c.requires, omega (arith, c.well_formed)) in
     omega (arith, known)
 
 pub read_i16s-coefficients-requires : goal.read_i16s-coefficients-requires
 read_i16s-coefficients-requires c =
-    let placed = c in
-    let start = placed in
-    let s : List ℕ = start.args.s.now in
-    let field : Checked row_tag (row_length start.args.n) s start.args.at start.args.at c.check_field-field.result = checked row_tag (row_length start.args.n) s start.args.at refl placed.row_places-row.ensures.len c.check_field-field.ensures in
-    let known : let h = c in let g = start.args in RowPlaced g.n placed.row_places-row.result × (g.at + row_size g.n ≤ length s) × RowLists g.n (block g.a.now g.t.now g.b.now g.f.now) × (length s < 2 ^ 64) = let h = c in (placed.row_places-row.ensures, field.room c.in_default.is, start.requires, omega (arith, start.well_formed)) in
+    let s : List ℕ = c.args.s.now in
+    let field : Checked row_tag (row_length c.args.n) s c.args.at c.args.at c.check_field-field.result = checked row_tag (row_length c.args.n) s c.args.at refl c.row_places-row.ensures.len c.check_field-field.ensures in
+    let known : let h = c in let g = c.args in RowPlaced g.n c.row_places-row.result × (g.at + row_size g.n ≤ length s) × RowLists g.n (block g.a.now g.t.now g.b.now g.f.now) × (length s < 2 ^ 64) = let h = c in (c.row_places-row.ensures, field.room c.in_default.is, c.requires, omega (arith, c.well_formed)) in
     omega (arith, known)
 
 pub overflow_add-value-2 : goal.overflow_add-value-2
 overflow_add-value-2 c =
-    let placed = c in
-    let start = placed in
-    let s : List ℕ = start.args.s.now in
-    let field : Checked row_tag (row_length start.args.n) s start.args.at start.args.at c.check_field-field.result = checked row_tag (row_length start.args.n) s start.args.at refl placed.row_places-row.ensures.len c.check_field-field.ensures in
-    let known : let h = c in let g = start.args in RowPlaced g.n placed.row_places-row.result × (g.at + row_size g.n ≤ length s) × RowLists g.n (block g.a.now g.t.now g.b.now g.f.now) × (length s < 2 ^ 64) = let h = c in (placed.row_places-row.ensures, field.room c.in_default.is, start.requires, omega (arith, start.well_formed)) in
-    let second = c in
-    omega (arith, known second)
+    let s : List ℕ = c.args.s.now in
+    let field : Checked row_tag (row_length c.args.n) s c.args.at c.args.at c.check_field-field.result = checked row_tag (row_length c.args.n) s c.args.at refl c.row_places-row.ensures.len c.check_field-field.ensures in
+    let known : let h = c in let g = c.args in RowPlaced g.n c.row_places-row.result × (g.at + row_size g.n ≤ length s) × RowLists g.n (block g.a.now g.t.now g.b.now g.f.now) × (length s < 2 ^ 64) = let h = c in (c.row_places-row.ensures, field.room c.in_default.is, c.requires, omega (arith, c.well_formed)) in
+    omega (arith, known)
 
 pub read_u16s-tolerances-requires : goal.read_u16s-tolerances-requires
 read_u16s-tolerances-requires c =
-    let placed = c in
-    let start = placed in
-    let s : List ℕ = start.args.s.now in
-    let field : Checked row_tag (row_length start.args.n) s start.args.at start.args.at c.check_field-field.result = checked row_tag (row_length start.args.n) s start.args.at refl placed.row_places-row.ensures.len c.check_field-field.ensures in
-    let known : let h = c in let g = start.args in RowPlaced g.n placed.row_places-row.result × (g.at + row_size g.n ≤ length s) × RowLists g.n (block g.a.now g.t.now g.b.now g.f.now) × (length s < 2 ^ 64) = let h = c in (placed.row_places-row.ensures, field.room c.in_default.is, start.requires, omega (arith, start.well_formed)) in
-    let second = c in
-    omega (arith, known second)
+    let s : List ℕ = c.args.s.now in
+    let field : Checked row_tag (row_length c.args.n) s c.args.at c.args.at c.check_field-field.result = checked row_tag (row_length c.args.n) s c.args.at refl c.row_places-row.ensures.len c.check_field-field.ensures in
+    let known : let h = c in let g = c.args in RowPlaced g.n c.row_places-row.result × (g.at + row_size g.n ≤ length s) × RowLists g.n (block g.a.now g.t.now g.b.now g.f.now) × (length s < 2 ^ 64) = let h = c in (c.row_places-row.ensures, field.room c.in_default.is, c.requires, omega (arith, c.well_formed)) in
+    omega (arith, known)
 
 pub overflow_add-value-3 : goal.overflow_add-value-3
 overflow_add-value-3 c =
-    let placed = c in
-    let start = placed in
-    let s : List ℕ = start.args.s.now in
-    let field : Checked row_tag (row_length start.args.n) s start.args.at start.args.at c.check_field-field.result = checked row_tag (row_length start.args.n) s start.args.at refl placed.row_places-row.ensures.len c.check_field-field.ensures in
-    let known : let h = c in let g = start.args in RowPlaced g.n placed.row_places-row.result × (g.at + row_size g.n ≤ length s) × RowLists g.n (block g.a.now g.t.now g.b.now g.f.now) × (length s < 2 ^ 64) = let h = c in (placed.row_places-row.ensures, field.room c.in_default.is, start.requires, omega (arith, start.well_formed)) in
-    let second = c in
-    let third = second in
-    omega (arith, known third)
+    let s : List ℕ = c.args.s.now in
+    let field : Checked row_tag (row_length c.args.n) s c.args.at c.args.at c.check_field-field.result = checked row_tag (row_length c.args.n) s c.args.at refl c.row_places-row.ensures.len c.check_field-field.ensures in
+    let known : let h = c in let g = c.args in RowPlaced g.n c.row_places-row.result × (g.at + row_size g.n ≤ length s) × RowLists g.n (block g.a.now g.t.now g.b.now g.f.now) × (length s < 2 ^ 64) = let h = c in (c.row_places-row.ensures, field.room c.in_default.is, c.requires, omega (arith, c.well_formed)) in
+    omega (arith, known)
 
 pub read_i32s-right_side-requires : goal.read_i32s-right_side-requires
 read_i32s-right_side-requires c =
-    let placed = c in
-    let start = placed in
-    let s : List ℕ = start.args.s.now in
-    let field : Checked row_tag (row_length start.args.n) s start.args.at start.args.at c.check_field-field.result = checked row_tag (row_length start.args.n) s start.args.at refl placed.row_places-row.ensures.len c.check_field-field.ensures in
-    let known : let h = c in let g = start.args in RowPlaced g.n placed.row_places-row.result × (g.at + row_size g.n ≤ length s) × RowLists g.n (block g.a.now g.t.now g.b.now g.f.now) × (length s < 2 ^ 64) = let h = c in (placed.row_places-row.ensures, field.room c.in_default.is, start.requires, omega (arith, start.well_formed)) in
-    let second = c in
-    let third = second in
-    omega (arith, known third)
+    let s : List ℕ = c.args.s.now in
+    let field : Checked row_tag (row_length c.args.n) s c.args.at c.args.at c.check_field-field.result = checked row_tag (row_length c.args.n) s c.args.at refl c.row_places-row.ensures.len c.check_field-field.ensures in
+    let known : let h = c in let g = c.args in RowPlaced g.n c.row_places-row.result × (g.at + row_size g.n ≤ length s) × RowLists g.n (block g.a.now g.t.now g.b.now g.f.now) × (length s < 2 ^ 64) = let h = c in (c.row_places-row.ensures, field.room c.in_default.is, c.requires, omega (arith, c.well_formed)) in
+    omega (arith, known)
 
 pub overflow_add-value-4 : goal.overflow_add-value-4
 overflow_add-value-4 c =
-    let placed = c in
-    let start = placed in
-    let s : List ℕ = start.args.s.now in
-    let field : Checked row_tag (row_length start.args.n) s start.args.at start.args.at c.check_field-field.result = checked row_tag (row_length start.args.n) s start.args.at refl placed.row_places-row.ensures.len c.check_field-field.ensures in
-    let known : let h = c in let g = start.args in RowPlaced g.n placed.row_places-row.result × (g.at + row_size g.n ≤ length s) × RowLists g.n (block g.a.now g.t.now g.b.now g.f.now) × (length s < 2 ^ 64) = let h = c in (placed.row_places-row.ensures, field.room c.in_default.is, start.requires, omega (arith, start.well_formed)) in
-    let second = c in
-    let third = second in
-    let fourth = third in
-    omega (arith, known fourth)
+    let s : List ℕ = c.args.s.now in
+    let field : Checked row_tag (row_length c.args.n) s c.args.at c.args.at c.check_field-field.result = checked row_tag (row_length c.args.n) s c.args.at refl c.row_places-row.ensures.len c.check_field-field.ensures in
+    let known : let h = c in let g = c.args in RowPlaced g.n c.row_places-row.result × (g.at + row_size g.n ≤ length s) × RowLists g.n (block g.a.now g.t.now g.b.now g.f.now) × (length s < 2 ^ 64) = let h = c in (c.row_places-row.ensures, field.room c.in_default.is, c.requires, omega (arith, c.well_formed)) in
+    omega (arith, known)
 
 pub read_u32s-right_tolerance-requires : goal.read_u32s-right_tolerance-requires
 read_u32s-right_tolerance-requires c =
-    let placed = c in
-    let start = placed in
-    let s : List ℕ = start.args.s.now in
-    let field : Checked row_tag (row_length start.args.n) s start.args.at start.args.at c.check_field-field.result = checked row_tag (row_length start.args.n) s start.args.at refl placed.row_places-row.ensures.len c.check_field-field.ensures in
-    let known : let h = c in let g = start.args in RowPlaced g.n placed.row_places-row.result × (g.at + row_size g.n ≤ length s) × RowLists g.n (block g.a.now g.t.now g.b.now g.f.now) × (length s < 2 ^ 64) = let h = c in (placed.row_places-row.ensures, field.room c.in_default.is, start.requires, omega (arith, start.well_formed)) in
-    let second = c in
-    let third = second in
-    let fourth = third in
-    omega (arith, known fourth)
+    let s : List ℕ = c.args.s.now in
+    let field : Checked row_tag (row_length c.args.n) s c.args.at c.args.at c.check_field-field.result = checked row_tag (row_length c.args.n) s c.args.at refl c.row_places-row.ensures.len c.check_field-field.ensures in
+    let known : let h = c in let g = c.args in RowPlaced g.n c.row_places-row.result × (g.at + row_size g.n ≤ length s) × RowLists g.n (block g.a.now g.t.now g.b.now g.f.now) × (length s < 2 ^ 64) = let h = c in (c.row_places-row.ensures, field.room c.in_default.is, c.requires, omega (arith, c.well_formed)) in
+    omega (arith, known)
