@@ -1,4 +1,2 @@
 pub mod Result
-pub mod ResultLaws
 pub mod Calls
-pub mod Laws

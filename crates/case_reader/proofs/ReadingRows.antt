@@ -12,17 +12,17 @@ use Rattle.buffer.specs.Buffer.{onto}
 use Rattle.buffer.specs.Laws.{filled, length_onto}
 use Rattle.rows.specs.Block.{Block, block, Counts, HasRoom, SameLengths, RowsRoom, stacked, over, together}
 use Rattle.rows.specs.BlockLaws.{together_more, AtRow, first_row, rows_held, row_held, next_row}
-use Rattle.outcome.specs.Laws.{stops, first_goes_on, not_both}
+use Rattle.outcome.proofs.Laws.{stops, first_goes_on, not_both}
 use Rattle.outcome.specs.declared.Refusal.{Refusal}
 use Rattle.outcome.specs.declared.Status.{Status}
 use Rattle.outcome.specs.declared.Status.TheVariants.{Accepted, Refused}
-use Rattle.figures.specs.LoopLaws.{ReadingItems, begun, stopped, turn, ended}
-use Rattle.fields.specs.AnswerLaws.{read_status, fields_read, read_made}
-use Rattle.fields.specs.DueLaws.{due_field}
-use Rattle.fields.specs.FieldLaws.{checked}
+use Rattle.figures.proofs.LoopLaws.{ReadingItems, begun, stopped, turn, ended}
+use Rattle.fields.proofs.AnswerLaws.{read_status, fields_read, read_made}
+use Rattle.fields.proofs.DueLaws.{due_field}
+use Rattle.fields.proofs.FieldLaws.{checked}
 use Rattle.casefile.specs.Decode.{row_at, row_due, row_status, rows_status}
 use Rattle.casefile.specs.Layout.{row_tag, row_length, row_size}
-use Rattle.casefile.specs.RowLaws.{row_sound}
+use Rattle.casefile.proofs.RowLaws.{row_sound}
 use Rattle.casefile.specs.SoundLaws.{SoundBlock, counts, Rows, none, together_sound, rows_more}
 use Rattle.case_reader.specs.Read.{RowFound, RowsFound}
 

@@ -6,14 +6,14 @@ use mathlib.Core.List.{List}
 use mathlib.Core.Path.{◌≡◌, sym, ap, ◌∙◌}
 use Rattle.limits.specs.Limits.{most_tanks}
 use Rattle.rows.specs.Block.{together}
-use Rattle.outcome.specs.Laws.{first_goes_on}
+use Rattle.outcome.proofs.Laws.{first_goes_on}
 use Rattle.outcome.specs.Outcome.{status_number, first}
 use Rattle.outcome.specs.declared.Refusal.{Refusal}
 use Rattle.outcome.specs.declared.Status.{Status}
 use Rattle.outcome.specs.declared.Status.TheVariants.{Accepted, Refused}
-use Rattle.fields.specs.AnswerLaws.{read_status, fields_read, read_made, answer_stops}
+use Rattle.fields.proofs.AnswerLaws.{read_status, fields_read, read_made, answer_stops}
 use Rattle.casefile.specs.Case.{case_with}
-use Rattle.casefile.specs.CaseLaws.{head_limits}
+use Rattle.casefile.proofs.CaseLaws.{head_limits}
 use Rattle.casefile.specs.Decode.{after_head, head_status, rows_status, rows_of, trial_of, tail_status, input_status, case_of, refused, decode}
 use Rattle.casefile.specs.Layout.{rows_end}
 use Rattle.case_reader.specs.Read.{case_head, head_of, HeadFound, RowsFound, TailFound, CaseLists, CaseFound, CaseReadInto}

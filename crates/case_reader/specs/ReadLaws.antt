@@ -1,7 +1,7 @@
 -- What a caller learns of a case that was read into its lists. Assumes nothing.
 use Rattle.std.specs.Prelude.{◌≡◌, refl}
 use Rattle.std.proofs.Common.{ap}
-use Rattle.outcome.specs.Laws.{same_status, not_both}
+use Rattle.outcome.proofs.Laws.{same_status, not_both}
 use Rattle.outcome.specs.declared.Refusal.{Refusal}
 use Rattle.outcome.specs.declared.Status.TheVariants.{Accepted, Refused}
 use Rattle.casefile.specs.Case.{Case}

@@ -17,13 +17,13 @@ use Rattle.outcome.specs.declared.Outcome.TheVariants.{Count, Refused as Refused
 use Rattle.outcome.specs.declared.Refusal.{Refusal}
 use Rattle.bigendian.specs.Number.{Bytes}
 use Rattle.casefile.specs.Case.{Case, case_with, trial_count_due}
-use Rattle.casefile.specs.CaseLaws.{Good, decode_good}
+use Rattle.casefile.proofs.CaseLaws.{Good, decode_good}
 use Rattle.casefile.specs.Decode.{accepted, refused, decoded, decode, places, CaseRead}
-use Rattle.casefile.specs.RowsLaws.{square_fits}
+use Rattle.casefile.proofs.RowsLaws.{square_fits}
 use Rattle.casefile.specs.SoundLaws.{counts}
-use Rattle.casefile.specs.TailLaws.{given_trial_most}
+use Rattle.casefile.proofs.TailLaws.{given_trial_most}
 use Rattle.casefile.specs.Write.{write_status, write}
-use Rattle.casefile.specs.WriteLaws.{count_accepted, count_fits, written_read, refused_status, read_written}
+use Rattle.casefile.proofs.WriteLaws.{count_accepted, count_fits, written_read, refused_status, read_written}
 use Rattle.casefile.specs.declared.Reading.{Reading}
 use Rattle.case_reader.specs.Read.{CaseLists, zero_lists}
 use Rattle.case_reader.specs.ReadLaws.{CaseHeld}

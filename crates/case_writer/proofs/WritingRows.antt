@@ -12,7 +12,7 @@ use Rattle.buffer.specs.RunLaws.{Running, run_begun, run_next, run_turn_lent, ru
 use Rattle.rows.specs.Block.{Block, no_row, Counts, HasRoom, RowLists, RowsRoom, front, behind, split}
 use Rattle.rows.specs.BlockLaws.{split_at, length_split, AtRow, first_row, row_held, next_row}
 use Rattle.casefile.specs.Layout.{row_size, row_field}
-use Rattle.casefile.specs.RowLaws.{length_row_field}
+use Rattle.casefile.proofs.RowLaws.{length_row_field}
 
 module _ (out₀ : List ℕ) (n : ℕ) (lists : Block) where
   pub record WritingRows (out : List ℕ) (i from p : ℕ) : Type 0 where

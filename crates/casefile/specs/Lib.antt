@@ -2,13 +2,4 @@ pub mod Case
 pub mod Layout
 pub mod Decode
 pub mod Write
-pub mod KindLaws
 pub mod SoundLaws
-pub mod RowLaws
-pub mod RowsLaws
-pub mod TailLaws
-pub mod CaseLaws
-pub mod PrefixLaws
-pub mod WriteLaws
-pub mod StoredLaws
-pub mod Examples

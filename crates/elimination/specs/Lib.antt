@@ -3,13 +3,3 @@ pub mod Steps
 pub mod Outcome
 pub mod Claims
 pub mod Conditions
-pub mod Laws
-pub mod Start
-pub mod Pivot
-pub mod Bounds
-pub mod Runs
-pub mod Factors
-pub mod Order
-pub mod OutcomeLaws
-pub mod SameFigures
-pub mod Examples

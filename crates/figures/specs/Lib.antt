@@ -1,4 +1,1 @@
 pub mod Figures
-pub mod ItemLaws
-pub mod FigureLaws
-pub mod LoopLaws

@@ -4,7 +4,6 @@ pub mod Order
 pub mod Sign
 pub mod Size
 pub mod Sums
-pub mod SumLaws
 pub mod Tables
 pub mod TableLaws
 pub mod Code

@@ -3,14 +3,5 @@ pub mod System
 pub mod Perturbation
 pub mod Judgement
 pub mod Magnitudes
-pub mod RowSumLaws
-pub mod Laws
-pub mod Deciding
-pub mod ZeroTrial
-pub mod Sizes
-pub mod OettliPrager
 pub mod Finding
-pub mod Agreement
-pub mod Theorem
 pub mod Places
-pub mod SameFigures

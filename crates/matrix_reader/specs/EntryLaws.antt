@@ -15,7 +15,7 @@ use Rattle.buffer.specs.AllLaws.{and_true}
 use Rattle.buffer.specs.Buffer.{begins_by}
 use Rattle.buffer.specs.LeadingLaws.{begins_front}
 use Rattle.decimal.specs.Decimal.{line_feed}
-use Rattle.decimal.specs.DigitsReadLaws.{leading_digits, length_digits_in}
+use Rattle.decimal.proofs.DigitsReadLaws.{leading_digits, length_digits_in}
 use Rattle.decimal.specs.Reading.{value, negative, DigitsRead}
 use Rattle.decimal.specs.declared.Digits.{Digits}
 use Rattle.matrixfile.specs.Read.{most_entry_digits, after_minus, entry_digits, entry_fine, entry_of, after_entry, entries_fine, entries_of}

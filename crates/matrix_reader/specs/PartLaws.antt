@@ -11,7 +11,7 @@ use Rattle.buffer.specs.LeadingLaws.{begins_front}
 use Rattle.decimal.specs.Decimal.{line_feed}
 use Rattle.casefile.specs.Case.{tanks_are_fine}
 use Rattle.matrixfile.specs.Read.{after_comments, size_of, spaces_in, size_fine, behind_size, at_size_line}
-use Rattle.matrixfile.specs.SizeLaws.{size_tests, size_some}
+use Rattle.matrixfile.proofs.SizeLaws.{size_tests, size_some}
 use Rattle.matrixfile.specs.Text.{first_line}
 use Rattle.matrix_reader.specs.Parts.{LeavesBehind, CommentsRead, SizeRead, HeaderRead}
 use Rattle.matrix_reader.specs.declared.Size.{Size}

@@ -7,9 +7,9 @@ use Rattle.buffer.specs.AllLaws.{and_true}
 use Rattle.buffer.specs.Buffer.{begins_by}
 use Rattle.outcome.specs.declared.Refusal.TheVariants.{WrongMatrixHeader, WrongMatrixEntry}
 use Rattle.outcome.specs.declared.Status.TheVariants.{Accepted, Refused}
-use Rattle.casefile.specs.RowsLaws.{square_fits}
+use Rattle.casefile.proofs.RowsLaws.{square_fits}
 use Rattle.matrixfile.specs.Read.{size_fine, at_size_line, tanks_in, at_entries, text_status, coefficients_in}
-use Rattle.matrixfile.specs.SizeLaws.{size_tests}
+use Rattle.matrixfile.proofs.SizeLaws.{size_tests}
 use Rattle.matrixfile.specs.Text.{first_line, transpose}
 use Rattle.matrixfile.specs.TextLaws.{transpose_front}
 use Rattle.matrix_reader.specs.Parts.{HeaderRead, EntriesRead, Square}

@@ -12,15 +12,15 @@ use Rattle.buffer.specs.RunLaws.{length_run_le, joined_run}
 use Rattle.integers.specs.Tables.{Within}
 use Rattle.integers.specs.TableLaws.{length_table, get_d_table, all_table, row_inside}
 use Rattle.outcome.specs.CallResult.{check_room}
-use Rattle.outcome.specs.CallResultLaws.{WrittenCount, written_count}
-use Rattle.outcome.specs.Laws.{check_accepted, first_left, first_right}
+use Rattle.outcome.proofs.CallResultLaws.{WrittenCount, written_count}
+use Rattle.outcome.proofs.Laws.{check_accepted, first_left, first_right}
 use Rattle.outcome.specs.Outcome.{reported_outcome}
 use Rattle.outcome.specs.declared.Outcome.TheVariants.{Count}
 use Rattle.outcome.specs.declared.Status.TheVariants.{Accepted}
 use Rattle.figures.specs.Figures.{within_limit}
 use Rattle.decimal.specs.Decimal.{line_feed, signed_decimal}
-use Rattle.decimal.specs.ReadingLaws.{length_signed}
-use Rattle.casefile.specs.RowsLaws.{square_fits}
+use Rattle.decimal.proofs.ReadingLaws.{length_signed}
+use Rattle.casefile.proofs.RowsLaws.{square_fits}
 use Rattle.casefile.specs.SoundLaws.{Sound}
 use Rattle.matrixfile.specs.Text.{first_line, size_line, entry_line, longest_entry_line, transposed_place, transpose, matrix_text, longest_text, matrix_status, matrix_writing}
 

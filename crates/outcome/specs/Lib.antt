@@ -1,4 +1,2 @@
 pub mod Outcome
 pub mod CallResult
-pub mod Laws
-pub mod CallResultLaws

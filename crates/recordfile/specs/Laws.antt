@@ -7,10 +7,10 @@ use Rattle.limits.specs.Limits.{most_tanks}
 use Rattle.buffer.specs.Buffer.{onto, run}
 use Rattle.buffer.specs.RunLaws.{length_run}
 use Rattle.judge.specs.Judgement.{Judgement}
-use Rattle.figures.specs.FigureLaws.{length_figure}
+use Rattle.figures.proofs.FigureLaws.{length_figure}
 use Rattle.figures.specs.Figures.{i32_kind, i64_kind, u64_kind, figure_bytes}
 use Rattle.fields.specs.Field.{header_size, header, field, end_tag, end_field}
-use Rattle.fields.specs.FieldLaws.{length_field, field_stored}
+use Rattle.fields.proofs.FieldLaws.{length_field, field_stored}
 use Rattle.recordfile.specs.Layout.{answer_length, pair_size, rows_length, answer_place, condition_rows_at, factor_at, condition_length, verdict_tag, answer_tag, rows_tag, factor_tag, flag, answer_bytes, pair_at, verdict_field, answer_field, rows_field, factor_field, condition_fields, record_of, record_length, longest_record}
 
 pub length_answer : (Y : List ℤ) (j : ℕ) → length (answer_bytes Y j) ≡ i32_kind.width

@@ -4,13 +4,4 @@ pub mod RankedTrials
 pub mod Solution
 pub mod Limits
 pub mod Claims
-pub mod Sizes
-pub mod Laws
-pub mod RankingLaws
-pub mod Endings
-pub mod Outcomes
-pub mod Answers
-pub mod RoundsMade
-pub mod Kept
-pub mod SameFigures
 pub mod Ranges

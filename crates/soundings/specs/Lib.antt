@@ -1,5 +1,2 @@
 pub mod Soundings
 pub mod Sounded
-pub mod SoundingLaws
-pub mod TankLaws
-pub mod SoundedLaws

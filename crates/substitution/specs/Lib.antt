@@ -1,4 +1,2 @@
 pub mod Passes
 pub mod Bounds
-pub mod ForwardLaws
-pub mod BackwardLaws

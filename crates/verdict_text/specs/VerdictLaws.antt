@@ -5,7 +5,7 @@ use Rattle.std.proofs.Math.Path.{refl}
 use Rattle.buffer.specs.Buffer.{onto, Room, Wrote}
 use Rattle.buffer.specs.Laws.{holds}
 use Rattle.outcome.specs.CallResult.{check_room, call_result}
-use Rattle.outcome.specs.CallResultLaws.{written_count, written_short, written_whole}
+use Rattle.outcome.proofs.CallResultLaws.{written_count, written_short, written_whole}
 use Rattle.outcome.specs.Outcome.{number_of, reported_outcome}
 use Rattle.outcome.specs.declared.Outcome.{Outcome}
 use Rattle.outcome.specs.declared.Outcome.TheVariants.{Count, Refused as RefusedBy}
@@ -14,10 +14,10 @@ use Rattle.outcome.specs.declared.Refusal.TheVariants.{BufferTooShort, FieldMiss
 use Rattle.outcome.specs.declared.Status.{Status}
 use Rattle.outcome.specs.declared.Status.TheVariants.{Accepted, Refused}
 use Rattle.casefile.specs.Decode.{decode}
-use Rattle.ballast.specs.AnswerBounds.{AnswerBounded, answer_bounded}
+use Rattle.ballast.proofs.AnswerBounds.{AnswerBounded, answer_bounded}
 use Rattle.ballast.specs.Call.{Answer, answer_of}
 use Rattle.report.specs.Text.{report, text, refusal_text, text_room, TextFits}
-use Rattle.report.specs.TextLaws.{ReportFits, length_text, length_refusal, some_text, some_refusal}
+use Rattle.report.proofs.TextLaws.{ReportFits, length_text, length_refusal, some_text, some_refusal}
 use Rattle.verdict_text.specs.Verdict.{text_by, text_of, printed_text, text_call}
 
 -- ---- the text of every input

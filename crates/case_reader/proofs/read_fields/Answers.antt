@@ -7,7 +7,7 @@ use mathlib.Core.Path.{◌≡◌}
 use native.Mathlib.Omega.{arith}
 use Rattle.limits.specs.Limits.{most_tanks}
 use Rattle.outcome.specs.declared.Status.TheVariants.{Accepted}
-use Rattle.casefile.specs.RowsLaws.{square_fits}
+use Rattle.casefile.proofs.RowsLaws.{square_fits}
 use Rattle.case_reader.specs.Read.{HeadFound}
 use Rattle.case_reader.specs.declared.CaseHead.{CaseHead}
 use Rattle.case_reader.proofs.Whole.{head_stops, small, rows_stop, tail_last}

@@ -7,12 +7,12 @@ use lib.Seq.{get_or-drop}
 use mathlib.Core.List.{List}
 use mathlib.Core.Path.{◌≡◌, refl}
 use native.Mathlib.Omega.{arith}
-use Rattle.outcome.specs.Laws.{same_status}
+use Rattle.outcome.proofs.Laws.{same_status}
 use Rattle.outcome.specs.Outcome.{check}
 use Rattle.outcome.specs.declared.Refusal.TheVariants.{OutsideLimits}
-use Rattle.fields.specs.AnswerLaws.{answer_stops, answer_goes_on}
+use Rattle.fields.proofs.AnswerLaws.{answer_stops, answer_goes_on}
 use Rattle.fields.specs.Field.{header_size, value_of}
-use Rattle.fields.specs.FieldLaws.{Checked, checked}
+use Rattle.fields.proofs.FieldLaws.{Checked, checked}
 use Rattle.casefile.specs.Decode.{head_status}
 use Rattle.casefile.specs.Layout.{head_tag, head_length, n_in, exponent_in, rounds_in, rows_at}
 use Rattle.case_reader.proofs.read_head.Goals as goal

@@ -7,14 +7,14 @@ use lib.ListN.{length, drop, length-drop}
 use lib.Seq.{drop-drop}
 use mathlib.Core.Path.{◌≡◌, refl, sym, ap, ◌∙◌}
 use native.Mathlib.Omega.{arith}
-use Rattle.outcome.specs.Laws.{first_goes_on}
+use Rattle.outcome.proofs.Laws.{first_goes_on}
 use Rattle.outcome.specs.Outcome.{status_number, check}
 use Rattle.outcome.specs.declared.Refusal.TheVariants.{TrailingBytes}
 use Rattle.outcome.specs.declared.Status.TheVariants.{Accepted}
-use Rattle.fields.specs.AnswerLaws.{read_status, answer_stops, read_made}
+use Rattle.fields.proofs.AnswerLaws.{read_status, answer_stops, read_made}
 use Rattle.fields.specs.Due.{end_status}
 use Rattle.fields.specs.Field.{end_tag, end_length, end_size}
-use Rattle.fields.specs.FieldLaws.{Checked, checked}
+use Rattle.fields.proofs.FieldLaws.{Checked, checked}
 use Rattle.casefile.specs.Decode.{trial_status, tail_status}
 use Rattle.casefile.specs.Layout.{rows_end, trial_size, end_at}
 use Rattle.case_reader.proofs.read_tail.Goals as goal

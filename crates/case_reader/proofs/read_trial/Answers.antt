@@ -6,14 +6,14 @@ use lib.Seq.{length-take-le}
 use mathlib.Core.Path.{◌≡◌, refl, sym}
 use native.Mathlib.Omega.{arith}
 use Rattle.outcome.specs.declared.Refusal.TheVariants.{OutsideLimits}
-use Rattle.figures.specs.FigureLaws.{run_at}
-use Rattle.figures.specs.ItemLaws.{length_items}
-use Rattle.fields.specs.AnswerLaws.{fields_read, answer_stops, answer_goes_on}
+use Rattle.figures.proofs.FigureLaws.{run_at}
+use Rattle.figures.proofs.ItemLaws.{length_items}
+use Rattle.fields.proofs.AnswerLaws.{fields_read, answer_stops, answer_goes_on}
 use Rattle.fields.specs.Field.{value_of}
-use Rattle.fields.specs.FieldLaws.{Checked, checked}
+use Rattle.fields.proofs.FieldLaws.{Checked, checked}
 use Rattle.casefile.specs.Decode.{trial_status, trial_of}
 use Rattle.casefile.specs.Layout.{rows_end, trial_tag, trial_kind, trial_length}
-use Rattle.casefile.specs.TailLaws.{no_trial_given}
+use Rattle.casefile.proofs.TailLaws.{no_trial_given}
 use Rattle.case_reader.proofs.read_trial.Goals as goal
 
 pub returns-then-rounds-ne0 : goal.returns-then-rounds-ne0

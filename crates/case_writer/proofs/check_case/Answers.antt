@@ -8,8 +8,8 @@ use native.Mathlib.Omega.{arith}
 use Rattle.limits.specs.Limits.{tolerance_limit, right_side_limit, right_tolerance_limit, trial_limit}
 use Rattle.figures.specs.Figures.{all_up_to_limit, all_within_limit}
 use Rattle.casefile.specs.Case.{Case, case_of_lists, HeadSmall, head_is_fine, counted, coefficients_are_fine, rows_fine, figures_fine, case_status}
-use Rattle.casefile.specs.CaseLaws.{head_small}
-use Rattle.casefile.specs.RowsLaws.{square_fits}
+use Rattle.casefile.proofs.CaseLaws.{head_small}
+use Rattle.casefile.proofs.RowsLaws.{square_fits}
 use Rattle.case_writer.proofs.check_case.Goals as goal
 
 pub returns-then-not-head_fine : goal.returns-then-not-head_fine

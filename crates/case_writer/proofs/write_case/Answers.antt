@@ -2,8 +2,8 @@
 -- Assumes nothing.
 use borrow.Author.Rules.{rules}
 use mathlib.Core.Path.{sym, ◌∙◌}
-use Rattle.outcome.specs.CallResultLaws.{written_short, written_refused, written_whole}
-use Rattle.outcome.specs.Laws.{same_status}
+use Rattle.outcome.proofs.CallResultLaws.{written_short, written_refused, written_whole}
+use Rattle.outcome.proofs.Laws.{same_status}
 use Rattle.casefile.specs.Case.{Case, case_of_lists, case_status}
 use Rattle.casefile.specs.Layout.{longest_case, encode}
 use Rattle.casefile.specs.Write.{write_status, write}

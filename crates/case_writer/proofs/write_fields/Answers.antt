@@ -11,12 +11,12 @@ use Rattle.buffer.specs.Buffer.{joined}
 use Rattle.buffer.specs.Laws.{put}
 use Rattle.buffer.specs.WroteLaws.{wrote_same, wrote_front, wrote_more}
 use Rattle.fields.specs.Field.{header_size, field, end_tag, end_size, end_field}
-use Rattle.fields.specs.FieldLaws.{length_field, field_stored}
+use Rattle.fields.proofs.FieldLaws.{length_field, field_stored}
 use Rattle.casefile.specs.Case.{Case, case_of_lists, HeadSmall}
-use Rattle.casefile.specs.CaseLaws.{Good, good, encode_is, length_rows_in, length_encode, longest}
+use Rattle.casefile.proofs.CaseLaws.{Good, good, encode_is, length_rows_in, length_encode, longest}
 use Rattle.casefile.specs.Layout.{head_tag, head_value, rows_at, end_at, TailPlaced, longest_case, row_field, rows_in, trial_bytes}
 use Rattle.casefile.specs.SoundLaws.{counts}
-use Rattle.casefile.specs.TailLaws.{length_trial}
+use Rattle.casefile.proofs.TailLaws.{length_trial}
 use Rattle.case_writer.proofs.write_fields.Goals as goal
 
 pub write_trial-requires : goal.write_trial-requires

@@ -6,11 +6,11 @@ use lib.ListN.{length}
 use mathlib.Core.List.{append-nil}
 use mathlib.Core.Path.{◌≡◌, subst}
 use native.Mathlib.Omega.{arith}
-use Rattle.figures.specs.FigureLaws.{length_spread}
+use Rattle.figures.proofs.FigureLaws.{length_spread}
 use Rattle.figures.specs.Figures.{spread}
-use Rattle.fields.specs.FieldLaws.{field_written}
+use Rattle.fields.proofs.FieldLaws.{field_written}
 use Rattle.casefile.specs.Layout.{trial_tag, trial_kind}
-use Rattle.casefile.specs.TailLaws.{no_trial_given}
+use Rattle.casefile.proofs.TailLaws.{no_trial_given}
 use Rattle.case_writer.specs.Room.{TrialRoom}
 use Rattle.case_writer.proofs.write_trial.Goals as goal
 

@@ -2,7 +2,7 @@
 -- Assumes nothing.
 use mathlib.Core.Path.{refl}
 use native.Mathlib.Omega.{arith}
-use Rattle.casefile.specs.RowsLaws.{square_fits}
+use Rattle.casefile.proofs.RowsLaws.{square_fits}
 use Rattle.casefile.proofs.coefficients_counted.Goals as goal
 
 pub returns : goal.returns

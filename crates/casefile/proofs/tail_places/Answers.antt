@@ -5,8 +5,8 @@ use mathlib.Core.Path.{◌≡◌}
 use native.Mathlib.Omega.{arith}
 use Rattle.casefile.specs.Case.{trial_count_due}
 use Rattle.casefile.specs.Layout.{trial_size}
-use Rattle.casefile.specs.RowsLaws.{rows_fit}
-use Rattle.casefile.specs.TailLaws.{no_trial_given}
+use Rattle.casefile.proofs.RowsLaws.{rows_fit}
+use Rattle.casefile.proofs.TailLaws.{no_trial_given}
 use Rattle.casefile.proofs.tail_places.Goals as goal
 
 pub returns-then-rounds-eq0 : goal.returns-then-rounds-eq0

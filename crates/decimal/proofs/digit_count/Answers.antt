@@ -7,7 +7,7 @@ use mathlib.Core.Path.{◌≡◌}
 use native.Mathlib.Nat.{lt_of_lt_of_le}
 use native.Mathlib.Omega.{arith}
 use Rattle.decimal.specs.Decimal.{decimal_digits}
-use Rattle.decimal.specs.DigitLaws.{digits_one, length_digits, length_digits_more}
+use Rattle.decimal.proofs.DigitLaws.{digits_one, length_digits, length_digits_more}
 use Rattle.decimal.proofs.digit_count.Goals as goal
 
 pub overflow_add-count : goal.overflow_add-count

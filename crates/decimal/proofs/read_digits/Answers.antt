@@ -7,7 +7,7 @@ use lib.ListN.{length, get_or, length-take}
 use mathlib.Core.Bool.{true}
 use mathlib.Core.Path.{◌≡◌, sym, ◌∙◌}
 use native.Mathlib.Omega.{arith}
-use Rattle.decimal.specs.DigitsReadLaws.{digit_least, digit_most, ReadingDigits, digits_begun, next_fits, digits_turn, digits_end, digits_stop}
+use Rattle.decimal.proofs.DigitsReadLaws.{digit_least, digit_most, ReadingDigits, digits_begun, next_fits, digits_turn, digits_end, digits_stop}
 use Rattle.decimal.specs.Reading.{is_digit_byte}
 use Rattle.decimal.proofs.read_digits.Goals as goal
 

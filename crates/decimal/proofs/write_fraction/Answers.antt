@@ -8,7 +8,7 @@ use native.Mathlib.Omega.{arith}
 use Rattle.buffer.specs.Buffer.{Room, Wrote}
 use Rattle.buffer.specs.WroteLaws.{room_next, wrote_none, wrote_one, wrote_then}
 use Rattle.decimal.specs.Decimal.{last_digits}
-use Rattle.decimal.specs.DigitLaws.{fraction_some}
+use Rattle.decimal.proofs.DigitLaws.{fraction_some}
 use Rattle.decimal.proofs.write_fraction.Goals as goal
 
 pub returns-then-e-eq0 : goal.returns-then-e-eq0

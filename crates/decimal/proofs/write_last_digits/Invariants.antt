@@ -6,7 +6,7 @@ use native.Mathlib.Omega.{arith}
 use Rattle.buffer.specs.Buffer.{onto_at, Wrote}
 use Rattle.buffer.specs.Laws.{onto_at_none, onto_at_before, set_onto_at}
 use Rattle.decimal.specs.Decimal.{digit, last_digits}
-use Rattle.decimal.specs.DigitLaws.{length_last_digits}
+use Rattle.decimal.proofs.DigitLaws.{length_last_digits}
 use Rattle.decimal.proofs.write_last_digits.Given as goal
 
 pub record Filling (x count at : ℕ) (out₀ out : List ℕ) (rest left : ℕ) : Type 0 where

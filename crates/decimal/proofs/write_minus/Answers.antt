@@ -10,7 +10,7 @@ use native.Mathlib.Omega.{arith}
 use Rattle.buffer.specs.Buffer.{Room}
 use Rattle.buffer.specs.WroteLaws.{wrote_none, wrote_one}
 use Rattle.decimal.specs.Decimal.{minus_sign}
-use Rattle.decimal.specs.DigitLaws.{minus_below_zero, minus_from_zero}
+use Rattle.decimal.proofs.DigitLaws.{minus_below_zero, minus_from_zero}
 use Rattle.decimal.proofs.write_minus.Goals as goal
 
 pub bounds-out-at : goal.bounds-out-at

@@ -5,7 +5,7 @@ use borrow.Author.Rules.{rules}
 use lib.ListN.{length}
 use mathlib.Core.Path.{◌≡◌, sym, ap, ◌∙◌}
 use Rattle.decimal.specs.Decimal.{decimal_digits, last_digits}
-use Rattle.decimal.specs.DigitLaws.{digits_last}
+use Rattle.decimal.proofs.DigitLaws.{digits_last}
 use Rattle.decimal.proofs.write_unsigned.Goals as goal
 
 as_last : (x k : ℕ) → k ≡ length (decimal_digits x) → decimal_digits x ≡ last_digits k x

@@ -7,15 +7,15 @@ use mathlib.Core.Path.{◌≡◌, refl, sym, ap, ◌∙◌}
 use mir.Facts.{to_z-of_z}
 use native.Mathlib.Omega.{arith}
 use Rattle.limits.specs.Limits.{most_tanks}
-use Rattle.elimination.specs.Bounds.{last_step}
+use Rattle.elimination.proofs.Bounds.{last_step}
 use Rattle.elimination.specs.Conditions.{Pivoted, StartRows}
-use Rattle.elimination.specs.Factors.{kept, kept_pivoted}
-use Rattle.elimination.specs.Laws.{exchange_same}
+use Rattle.elimination.proofs.Factors.{kept, kept_pivoted}
+use Rattle.elimination.proofs.Laws.{exchange_same}
 use Rattle.elimination.specs.Matrix.{at}
 use Rattle.elimination.specs.Outcome.{outcome, Eliminates}
-use Rattle.elimination.specs.OutcomeLaws.{steps_zero_pivot, steps_complete}
-use Rattle.elimination.specs.Pivot.{pivot_best, pivot_up, pivot_stay, pivot_done}
-use Rattle.elimination.specs.Runs.{after_none, after_more, advanced_step, stays}
+use Rattle.elimination.proofs.OutcomeLaws.{steps_zero_pivot, steps_complete}
+use Rattle.elimination.proofs.Pivot.{pivot_best, pivot_up, pivot_stay, pivot_done}
+use Rattle.elimination.proofs.Runs.{after_none, after_more, advanced_step, stays}
 use Rattle.elimination.specs.Steps.{working_matrix, pivot_row, exchange, eliminated_below, Run, largest, next_run, after_steps, eliminated}
 use Rattle.elimination.specs.declared.Elimination.{Elimination}
 use Rattle.elimination.proofs.eliminate.Invariants.{Made, Searched, state}

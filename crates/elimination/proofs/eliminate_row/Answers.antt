@@ -9,7 +9,7 @@ use Rattle.integers.specs.TableLaws.{fill_next, fill_left, fill_none}
 use Rattle.integers.specs.Tables.{fill}
 use Rattle.rounding.specs.Round.{rnd}
 use Rattle.rounding.specs.Scale.{multiplier_scale}
-use Rattle.elimination.specs.Bounds.{top_le, row_le, multiplier_le, product_le, loss_le, reduced_le}
+use Rattle.elimination.proofs.Bounds.{top_le, row_le, multiplier_le, product_le, loss_le, reduced_le}
 use Rattle.elimination.specs.Conditions.{RowEliminable}
 use Rattle.elimination.specs.Steps.{multiplier, reduced_entry_of, eliminated_row}
 use Rattle.elimination.proofs.eliminate_row.Goals as goal

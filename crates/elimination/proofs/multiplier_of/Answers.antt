@@ -4,7 +4,7 @@ use mir.Syntax.{w64}
 use mir.Val.{SFits}
 use Rattle.std.specs.Prelude.{pos, ◌*ℤ◌}
 use Rattle.integers.specs.Size.{nat_abs-*ℤ, sfits_size}
-use Rattle.rounding.specs.Laws.{defined}
+use Rattle.rounding.proofs.Laws.{defined}
 use Rattle.elimination.proofs.multiplier_of.Goals as goal
 
 pub rounded_quotient-requires : goal.rounded_quotient-requires

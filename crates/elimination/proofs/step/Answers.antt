@@ -4,7 +4,7 @@ use Rattle.std.specs.Prelude.{ℕ, ◌+◌, ◌-◌, ◌<◌, ℤ, get_or, set, 
 use Rattle.std.proofs.Common.{sym, ap, subst, ◌∙◌, arith}
 use Rattle.integers.specs.TableLaws.{fill_next, fill_left, fill_none}
 use Rattle.integers.specs.Tables.{fill}
-use Rattle.elimination.specs.Bounds.{ready}
+use Rattle.elimination.proofs.Bounds.{ready}
 use Rattle.elimination.specs.Conditions.{Pivoted}
 use Rattle.elimination.specs.Steps.{row_below, eliminated_below}
 use Rattle.elimination.proofs.step.Goals as goal

@@ -7,7 +7,7 @@ use mir.Syntax.{w16}
 use native.Mathlib.Omega.{arith}
 use Rattle.integers.specs.Signed.{wide_fits}
 use Rattle.figures.specs.Figures.{within_limit}
-use Rattle.figures.specs.LoopLaws.{tested, Testing, test_begun, test_turn, test_ended}
+use Rattle.figures.proofs.LoopLaws.{tested, Testing, test_begun, test_turn, test_ended}
 use Rattle.figures.proofs.all_i16.Goals as goal
 
 pub loop-i-preserved : goal.loop-i-preserved

@@ -5,7 +5,7 @@ use mir.Syntax.{w32}
 use native.Mathlib.Omega.{arith}
 use Rattle.integers.specs.Signed.{wide_fits}
 use Rattle.figures.specs.Figures.{within_limit}
-use Rattle.figures.specs.LoopLaws.{tested, Testing, test_begun, test_turn, test_ended}
+use Rattle.figures.proofs.LoopLaws.{tested, Testing, test_begun, test_turn, test_ended}
 use Rattle.figures.proofs.all_i32.Given as goal
 
 abbrev pub invariant-loop-i : goal.invariant-loop-i

@@ -5,7 +5,7 @@ use lib.ListN.{length}
 use mathlib.Core.Path.{refl}
 use native.Mathlib.Omega.{arith}
 use Rattle.figures.specs.Figures.{up_to_limit}
-use Rattle.figures.specs.LoopLaws.{Testing, test_begun, test_turn, test_ended}
+use Rattle.figures.proofs.LoopLaws.{Testing, test_begun, test_turn, test_ended}
 use Rattle.figures.proofs.all_u32.Goals as goal
 
 pub loop-i-init : goal.loop-i-init

@@ -5,7 +5,7 @@ use mir.Syntax.{w16}
 use native.Mathlib.Omega.{arith}
 use Rattle.integers.specs.Signed.{wide_fits}
 use Rattle.figures.specs.Figures.{i16_kind, within_limit}
-use Rattle.figures.specs.LoopLaws.{tested, ReadingFigures, read_begun, read_next, read_turn, read_ended}
+use Rattle.figures.proofs.LoopLaws.{tested, ReadingFigures, read_begun, read_next, read_turn, read_ended}
 use Rattle.figures.proofs.read_i16s.Given as goal
 
 abbrev pub invariant-loop-i : goal.invariant-loop-i

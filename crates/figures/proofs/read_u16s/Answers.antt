@@ -6,7 +6,7 @@ use lib.ListN.{length, length-set}
 use mathlib.Core.Path.{refl}
 use native.Mathlib.Omega.{arith}
 use Rattle.figures.specs.Figures.{u16_kind, up_to_limit}
-use Rattle.figures.specs.LoopLaws.{ReadingFigures, read_begun, read_next, read_turn, read_ended}
+use Rattle.figures.proofs.LoopLaws.{ReadingFigures, read_begun, read_next, read_turn, read_ended}
 use Rattle.figures.proofs.read_u16s.Goals as goal
 
 pub loop-i-preserved : goal.loop-i-preserved

@@ -4,7 +4,7 @@ use lib.ListN.{length, length-set}
 use mathlib.Core.Path.{refl}
 use native.Mathlib.Omega.{arith}
 use Rattle.figures.specs.Figures.{u32_kind, up_to_limit}
-use Rattle.figures.specs.LoopLaws.{ReadingFigures, read_begun, read_next, read_turn, read_ended}
+use Rattle.figures.proofs.LoopLaws.{ReadingFigures, read_begun, read_next, read_turn, read_ended}
 use Rattle.figures.proofs.read_u32s.Given as goal
 
 abbrev pub invariant-loop-i : goal.invariant-loop-i

@@ -9,7 +9,7 @@ use native.Mathlib.Omega.{arith}
 use Rattle.buffer.specs.RunLaws.{run_begun, run_next, run_turn_lent}
 use Rattle.bigendian.specs.NumberLaws.{length_bytes}
 use Rattle.figures.specs.Figures.{i16_kind}
-use Rattle.figures.specs.LoopLaws.{WritingFigures, write_ended}
+use Rattle.figures.proofs.LoopLaws.{WritingFigures, write_ended}
 use Rattle.figures.proofs.write_i16s.Goals as goal
 
 pub overflow_add-p : goal.overflow_add-p

@@ -2,7 +2,7 @@
 use mathlib.Core.Path.{sym, ◌∙◌}
 use native.Mathlib.Nat.{mod-lt}
 use native.Mathlib.Omega.{arith}
-use Rattle.fractions.specs.Laws.{order_less, order_greater, by_quotient, by_remainder}
+use Rattle.fractions.proofs.Laws.{order_less, order_greater, by_quotient, by_remainder}
 use Rattle.fractions.proofs.+compare.Goals as goal
 
 pub returns-then-p-q : goal.returns-then-p-q

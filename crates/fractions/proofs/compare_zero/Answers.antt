@@ -4,7 +4,7 @@ use mathlib.Core.Logic.{◌⊎◌, inl, inr}
 use mathlib.Core.Path.{◌≡◌, sym}
 use native.Mathlib.Nat.{mul-pos}
 use native.Mathlib.Omega.{arith}
-use Rattle.fractions.specs.Laws.{order_less, order_equal, order_greater, numerator_base, proper_base}
+use Rattle.fractions.proofs.Laws.{order_less, order_equal, order_greater, numerator_base, proper_base}
 use Rattle.fractions.proofs.compare_zero.Goals as goal
 
 -- the second denominator, where the first is not the one that is 0

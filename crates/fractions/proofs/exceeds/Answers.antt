@@ -2,7 +2,7 @@
 use borrow.Author.Rules.{rules}
 use mathlib.Core.Path.{sym, ap, ◌∙◌}
 use Rattle.fractions.specs.Greatest.{is_greater_order}
-use Rattle.fractions.specs.RankLaws.{smaller, larger}
+use Rattle.fractions.proofs.RankLaws.{smaller, larger}
 use Rattle.fractions.proofs.exceeds.Goals as goal
 
 pub returns-then-d-b : goal.returns-then-d-b

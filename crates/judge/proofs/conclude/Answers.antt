@@ -10,10 +10,10 @@ use mir.Val.{SFits}
 use native.Mathlib.Omega.{arith}
 use Rattle.limits.specs.Limits.{most_tanks}
 use Rattle.fractions.specs.Fraction.{Fraction}
-use Rattle.fractions.specs.FirstLaws.{first_below}
+use Rattle.fractions.proofs.FirstLaws.{first_below}
 use Rattle.fractions.specs.Greatest.{greater, first_greatest}
 use Rattle.judge.specs.Judgement.{deciding_place, measurement_from}
-use Rattle.judge.specs.Laws.{conclusion}
+use Rattle.judge.proofs.Laws.{conclusion}
 use Rattle.judge.proofs.conclude.Goals as goal
 
 -- the deciding row's place is one of the eight

@@ -13,7 +13,7 @@ use mir.Val.{SFits, to_z, of_z}
 use native.Mathlib.Numerals.{add-one}
 use native.Mathlib.Omega.{arith}
 use Rattle.judge.specs.Judgement.{row_met, first_not}
-use Rattle.judge.specs.Laws.{first_not_more, first_not_here, first_not_stays}
+use Rattle.judge.proofs.Laws.{first_not_more, first_not_here, first_not_stays}
 use Rattle.judge.proofs.first_unmet.Invariants.{test}
 use Rattle.judge.proofs.first_unmet.Goals as goal
 

@@ -11,7 +11,7 @@ use mir.Val.{SFits}
 use native.Mathlib.Omega.{arith}
 use Rattle.fractions.specs.Fraction.{Fraction, order}
 use Rattle.fractions.specs.Greatest.{is_greater_order, greater, first_greatest}
-use Rattle.fractions.specs.FirstLaws.{first_none, first_one, first_next}
+use Rattle.fractions.proofs.FirstLaws.{first_none, first_one, first_next}
 use Rattle.judge.proofs.greatest_factor.Invariants.{factors}
 use Rattle.judge.proofs.greatest_factor.Goals.{then-exceeds, else-exceeds}
 use Rattle.judge.proofs.greatest_factor.Goals as goal

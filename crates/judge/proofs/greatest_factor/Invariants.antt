@@ -13,7 +13,7 @@ use native.Mathlib.Omega.{arith}
 use Rattle.limits.specs.Limits.{most_tanks}
 use Rattle.fractions.specs.Fraction.{Fraction, order}
 use Rattle.fractions.specs.Greatest.{is_greater_order, greater, first_greatest}
-use Rattle.fractions.specs.FirstLaws.{first_none, first_one, first_next}
+use Rattle.fractions.proofs.FirstLaws.{first_none, first_one, first_next}
 use Rattle.judge.specs.Judgement.{factor}
 use Rattle.judge.proofs.greatest_factor.Given as goal
 

@@ -12,8 +12,8 @@ use native.Mathlib.Omega.{arith}
 use Rattle.limits.specs.Limits.{most_tanks}
 use Rattle.integers.specs.TableLaws.{get_d_filled, row_inside}
 use Rattle.integers.specs.Tables.{filled}
-use Rattle.judge.specs.Agreement.{same_residual, same_reach}
-use Rattle.judge.specs.Laws.{measurement_by_parts}
+use Rattle.judge.proofs.Agreement.{same_residual, same_reach}
+use Rattle.judge.proofs.Laws.{measurement_by_parts}
 use Rattle.judge.specs.Magnitudes.{Magnitudes}
 use Rattle.judge.specs.Places.{filling_begun, filling_turn, filling_ended}
 use Rattle.judge.specs.System.{System, Trial, residual, reach, row, system, trial as trial_of}

@@ -11,7 +11,7 @@ use mir.Val.{SFits, to_z, of_z}
 use native.Mathlib.Omega.{arith}
 use Rattle.integers.specs.Signed.{wide_is}
 use Rattle.integers.specs.Size.{at_most, bounds, size_by, size_sfits, sfits_size, nat_abs-+ℤ}
-use Rattle.judge.specs.RowSumLaws.{running_products, running_weights, running_more}
+use Rattle.judge.proofs.RowSumLaws.{running_products, running_weights, running_more}
 use Rattle.judge.specs.RowSums.{add_terms, running_sums, product_sum, weight_sum}
 use Rattle.judge.specs.declared.RowSums.{RowSums}
 use Rattle.judge.specs.System.{coefficients_from, tolerances_from, trial_figures}

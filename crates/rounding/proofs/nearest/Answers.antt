@@ -5,8 +5,8 @@ use borrow.Author.Rules.{rules}
 use mathlib.Core.Path.{sym, ◌∙◌}
 use native.Mathlib.Nat.{mod-lt, div-add-mod', mul-le-mul_left}
 use native.Mathlib.Omega.{arith}
-use Rattle.rounding.specs.HalfLaws.{up_half}
-use Rattle.rounding.specs.Laws.{near_by}
+use Rattle.rounding.proofs.HalfLaws.{up_half}
+use Rattle.rounding.proofs.Laws.{near_by}
 use Rattle.rounding.proofs.nearest.Goals as goal
 
 pub rounds_up-requires : goal.rounds_up-requires

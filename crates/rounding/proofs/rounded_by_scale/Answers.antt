@@ -13,7 +13,7 @@ use native.Mathlib.Nat.{lt_of_le_of_lt}
 use native.Mathlib.Omega.{arith}
 use Rattle.integers.specs.Size.{sfits_size, size_sfits}
 use Rattle.rounding.specs.Half.{last_bit_of, floor_by_scale, remainder_by_scale, half_by_scale}
-use Rattle.rounding.specs.Laws.{rnd_le, rnd_scale_parts}
+use Rattle.rounding.proofs.Laws.{rnd_le, rnd_scale_parts}
 use Rattle.rounding.specs.Round.{rnd}
 use Rattle.rounding.specs.Scale.{multiplier_scale}
 use Rattle.rounding.proofs.rounded_by_scale.Goals as goal

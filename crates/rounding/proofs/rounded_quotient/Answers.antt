@@ -10,7 +10,7 @@ use mir.Syntax.{w64}
 use mir.Val.{SFits, to_z, of_z}
 use Rattle.integers.specs.Signed.{to_z_fits}
 use Rattle.integers.specs.Size.{size_neg_ℤ}
-use Rattle.rounding.specs.Laws.{rnd_signs}
+use Rattle.rounding.proofs.Laws.{rnd_signs}
 use Rattle.rounding.specs.Round.{near, rnd}
 use Rattle.rounding.proofs.rounded_quotient.Goals as goal
 

@@ -8,7 +8,7 @@ use Rattle.limits.specs.Limits.{most_tanks}
 use Rattle.integers.specs.Size.{sfits_size}
 use Rattle.integers.specs.TableLaws.{zeros_within, within_set}
 use Rattle.integers.specs.Tables.{Within}
-use Rattle.substitution.specs.BackwardLaws.{backward_more, backward_stop, backward_done}
+use Rattle.substitution.proofs.BackwardLaws.{backward_more, backward_stop, backward_done}
 use Rattle.substitution.specs.Bounds.{forward_bound}
 use Rattle.substitution.specs.Passes.{correction, correction_at, correction_limit, corrections, backward_from, backward}
 use Rattle.substitution.proofs.backward_pass.Goals as goal

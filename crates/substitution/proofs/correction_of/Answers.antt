@@ -5,9 +5,9 @@ use Rattle.std.proofs.Common.{ap, ◌∙◌, to_z-of_z, arith}
 use mir.Syntax.{w64}
 use mir.Val.{SFits, to_z, of_z}
 use Rattle.integers.specs.Size.{sfits_size, product_ok}
-use Rattle.rounding.specs.Laws.{defined}
+use Rattle.rounding.proofs.Laws.{defined}
 use Rattle.elimination.specs.Steps.{working_scale}
-use Rattle.substitution.specs.BackwardLaws.{numerator_small, working_fits}
+use Rattle.substitution.proofs.BackwardLaws.{numerator_small, working_fits}
 use Rattle.substitution.specs.Bounds.{Correctable}
 use Rattle.substitution.specs.Passes.{sum_above_row, correction}
 use Rattle.substitution.proofs.correction_of.Goals as goal

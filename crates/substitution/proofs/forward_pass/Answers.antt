@@ -2,7 +2,7 @@
 -- Assumes nothing.
 use Rattle.std.proofs.Common.{sym, ◌∙◌, to_z-of_z, arith}
 use mir.Syntax.{w64}
-use Rattle.substitution.specs.ForwardLaws.{reducible, forward_grown, forward_none, forward_more}
+use Rattle.substitution.proofs.ForwardLaws.{reducible, forward_grown, forward_none, forward_more}
 use Rattle.substitution.proofs.forward_pass.Goals as goal
 
 pub loop-i-init : goal.loop-i-init

@@ -8,7 +8,7 @@ use Rattle.rounding.specs.Round.{rnd}
 use Rattle.rounding.specs.Scale.{multiplier_scale}
 use Rattle.integers.specs.Size.{sfits_size}
 use Rattle.substitution.specs.Bounds.{Reducible}
-use Rattle.substitution.specs.ForwardLaws.{multiplier_fits, entry_fits, product_small, loss_fits, reduced_fits}
+use Rattle.substitution.proofs.ForwardLaws.{multiplier_fits, entry_fits, product_small, loss_fits, reduced_fits}
 use Rattle.substitution.specs.Passes.{loss, after_losses}
 use Rattle.substitution.proofs.reduced_entry.Goals as goal
 

@@ -5,7 +5,7 @@ use Rattle.std.proofs.Common.{to_z-of_z, arith}
 use mir.Syntax.{w64}
 use mir.Val.{SFits, to_z, of_z}
 use Rattle.integers.specs.Sums.{sum}
-use Rattle.substitution.specs.BackwardLaws.{working_fits, correction_fits, term_fits, sum_fits}
+use Rattle.substitution.proofs.BackwardLaws.{working_fits, correction_fits, term_fits, sum_fits}
 use Rattle.substitution.specs.Bounds.{Summable}
 use Rattle.substitution.specs.Passes.{product_above}
 use Rattle.substitution.proofs.sum_above.Goals as goal

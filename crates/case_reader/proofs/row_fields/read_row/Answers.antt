@@ -12,11 +12,11 @@ use native.Mathlib.Omega.{arith}
 use Rattle.limits.specs.Limits.{coefficient_limit, tolerance_limit, right_side_limit, right_tolerance_limit}
 use Rattle.rows.specs.Block.{Block, block, RowLists}
 use Rattle.outcome.specs.declared.Refusal.TheVariants.{OutsideLimits}
-use Rattle.figures.specs.FigureLaws.{run_at}
+use Rattle.figures.proofs.FigureLaws.{run_at}
 use Rattle.figures.specs.Figures.{i16_kind, u16_kind, i32_kind, u32_kind, within_limit, up_to_limit, RunRead}
-use Rattle.fields.specs.AnswerLaws.{answer_stops, answer_goes_on}
+use Rattle.fields.proofs.AnswerLaws.{answer_stops, answer_goes_on}
 use Rattle.fields.specs.Field.{header_size, value_of}
-use Rattle.fields.specs.FieldLaws.{Checked, checked}
+use Rattle.fields.proofs.FieldLaws.{Checked, checked}
 use Rattle.casefile.specs.Case.{rows_fine}
 use Rattle.casefile.specs.Decode.{row_of, row_status}
 use Rattle.casefile.specs.Layout.{row_tag, row_length, tolerances_in, right_side_in, right_tolerance_in, row_size, RowPlaced}

@@ -3,7 +3,7 @@ use borrow.Author.Rules.{rules}
 use native.Mathlib.Omega.{arith}
 use Rattle.limits.specs.Limits.{most_tanks}
 use Rattle.rows.specs.Block.{Block, block, HasRoom, SameLengths}
-use Rattle.fields.specs.AnswerLaws.{read_status}
+use Rattle.fields.proofs.AnswerLaws.{read_status}
 use Rattle.case_reader.proofs.ReadingRows.{ReadingRows, begun_rows, lengths, next, stopped_rows, past, turn_rows, ended_rows}
 use Rattle.case_reader.proofs.row_fields.read_rows.Given as goal
 

@@ -9,12 +9,12 @@ use native.Mathlib.Omega.{arith}
 use Rattle.buffer.specs.Laws.{length_onto}
 use Rattle.buffer.specs.WroteLaws.{wrote_front, wrote_more}
 use Rattle.rows.specs.Block.{Block, block, RowLists}
-use Rattle.figures.specs.FigureLaws.{length_spread}
+use Rattle.figures.proofs.FigureLaws.{length_spread}
 use Rattle.figures.specs.Figures.{i16_kind, u16_kind, i32_kind, u32_kind, spread}
 use Rattle.fields.specs.Field.{header_size, header as field_header}
-use Rattle.fields.specs.FieldLaws.{length_header, field_is_header}
+use Rattle.fields.proofs.FieldLaws.{length_header, field_is_header}
 use Rattle.casefile.specs.Layout.{row_tag, row_size, RowPlaced, row_bytes, row_field}
-use Rattle.casefile.specs.RowLaws.{length_row, length_row_field}
+use Rattle.casefile.proofs.RowLaws.{length_row, length_row_field}
 use Rattle.case_writer.proofs.row_fields.write_row.Goals as goal
 
 pub returns : goal.returns

@@ -1,0 +1,4 @@
+pub mod AnswerBounds
+pub mod Bounds
+pub mod CallLaws
+pub mod Theorem

@@ -1,0 +1,9 @@
+pub mod CaseLaws
+pub mod Examples
+pub mod KindLaws
+pub mod PrefixLaws
+pub mod RowLaws
+pub mod RowsLaws
+pub mod StoredLaws
+pub mod TailLaws
+pub mod WriteLaws

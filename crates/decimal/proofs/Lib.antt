@@ -1,0 +1,4 @@
+pub mod DigitLaws
+pub mod ReadingLaws
+pub mod DigitsReadLaws
+mod Examples

@@ -1,0 +1,10 @@
+pub mod Laws
+pub mod Start
+pub mod Pivot
+pub mod Bounds
+pub mod Runs
+pub mod Factors
+pub mod Order
+pub mod OutcomeLaws
+pub mod SameFigures
+pub mod Examples

@@ -1,0 +1,4 @@
+pub mod FieldLaws
+pub mod DueLaws
+pub mod AnswerLaws
+pub mod FrontLaws

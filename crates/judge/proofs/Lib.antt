@@ -1,0 +1,9 @@
+pub mod RowSumLaws
+pub mod Laws
+pub mod Deciding
+pub mod ZeroTrial
+pub mod Sizes
+pub mod OettliPrager
+pub mod Agreement
+pub mod Theorem
+pub mod SameFigures

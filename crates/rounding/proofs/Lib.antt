@@ -1,0 +1,4 @@
+pub mod HalfLaws
+pub mod Laws
+pub mod TiesToEvenLaws
+pub mod Examples

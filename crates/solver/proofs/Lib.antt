@@ -1,0 +1,9 @@
+pub mod Sizes
+pub mod Laws
+pub mod RankingLaws
+pub mod Endings
+pub mod Outcomes
+pub mod Answers
+pub mod RoundsMade
+pub mod KeptLaws
+pub mod SameFigures

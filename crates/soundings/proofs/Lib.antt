@@ -1,0 +1,3 @@
+pub mod SoundingLaws
+pub mod TankLaws
+pub mod SoundedLaws

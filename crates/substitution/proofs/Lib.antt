@@ -1,0 +1,2 @@
+pub mod ForwardLaws
+pub mod BackwardLaws

@@ -1,0 +1,3 @@
+pub mod TrialStatement
+pub mod Edges
+pub mod NotSingular
