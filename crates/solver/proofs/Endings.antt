@@ -106,7 +106,7 @@ module _ (w : List (List ℤ)) (o : List ℕ) (s : System) (D : ℕ) where
     pub outside : (k : ℕ) (j : Judgement) → FirstOutside w o s D K (suc k) → P (refused_solution OutsideRange (outside_progress k j))
 
   pub solutions : (K : ℕ) (P : Solution → Type 0) → Solutions K P → P (solved w o s D K)
-  solutions zero P h = h.no-round refl
+  solutions zero P h = h.no_round refl
   solutions (suc k) P h =
       endings (suc k) (λ p. P (kept_solution w o s D (suc k) p))
       (record {

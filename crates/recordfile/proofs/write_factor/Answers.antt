@@ -1,0 +1,16 @@
+-- `recordfile::write_factor` meets its contract: the header, and the value's bytes stored behind it. Assumes nothing.
+use borrow.Author.Rules.{rules}
+use lib.ListN.{length-set}
+use mathlib.Core.List.{[], ◌∷◌}
+use native.Mathlib.Omega.{arith}
+use Rattle.recordfile.specs.Laws.{flag_stored}
+use Rattle.recordfile.specs.Layout.{factor_tag}
+use Rattle.recordfile.proofs.write_factor.Goals as goal
+
+pub returns : goal.returns
+returns c =
+    let s = c in
+    let a = s.args in
+    let w = c.write_header in
+    flag_stored factor_tag a.none (a.decides ∷ []) a.out.now _ c.flag-m.ensures
+    (omega (arith, s.requires, w.auto)) w.ensures
