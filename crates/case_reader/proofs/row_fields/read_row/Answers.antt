@@ -32,6 +32,10 @@ row_answered : (r : Block) {a b : List ℤ} {t f : List ℕ} {b1 b2 b3 b4 : Bool
 unfolding rows_fine
 row_answered r w1 w2 w3 w4 = search (w1.made, w2.made, w3.made, w4.made)
 
+-- a place of the field's value
+in_value : (s value : List ℕ) (at q : ℕ) {p : ℕ} → drop (at + header_size) s ≡ value → p ≡ q → drop (at + header_size + p) s ≡ drop q value
+in_value s value at q v e = rw (e, ← (drop-drop q (at + header_size) s), v)
+
 pub returns-in-Refused : goal.returns-in-Refused
 unfolding row_status
 returns-in-Refused c =
@@ -45,7 +49,6 @@ returns c =
     let s : List ℕ = c.args.s.now in
     let value : List ℕ = value_of (drop c.args.at s) in
     let field : Checked row_tag (row_length c.args.n) s c.args.at c.args.at c.check_field-field.result = checked row_tag (row_length c.args.n) s c.args.at refl c.row_places-row.ensures.len c.check_field-field.ensures in
-    let in_value : (q : ℕ) {p : ℕ} → p ≡ q → drop (c.args.at + header_size + p) s ≡ drop q value = λ q e. rw (e, ← (drop-drop q (c.args.at + header_size) s), field.value) in
     let known : let h = c in let g = c.args in RowPlaced g.n c.row_places-row.result × (g.at + row_size g.n ≤ length s) × RowLists g.n (block g.a.now g.t.now g.b.now g.f.now) × (length s < 2 ^ 64) = let h = c in (c.row_places-row.ensures, field.room c.in_default.is, c.requires, omega (arith, c.well_formed)) in
     let w4 = c in
     let w3 = w4 in
@@ -59,9 +62,9 @@ returns c =
     let w =
     row_answered (row_of g.n value)
     (run_at i16_kind _ field.value l.l_a w1.read_i16s-coefficients.ensures)
-    (run_at u16_kind _ (in_value (tolerances_in g.n) q.0.tolerances) l.l_e w2.read_u16s-tolerances.ensures)
-    (run_at i32_kind _ (in_value (right_side_in g.n) q.0.right_side) l.lb w3.read_i32s-right_side.ensures)
-    (run_at u32_kind _ (in_value (right_tolerance_in g.n) q.0.right_tolerance_lem) l.lf w4.read_u32s-right_tolerance.ensures) in
+    (run_at u16_kind _ (in_value s value g.at (tolerances_in g.n) field.value q.0.tolerances) l.l_e w2.read_u16s-tolerances.ensures)
+    (run_at i32_kind _ (in_value s value g.at (right_side_in g.n) field.value q.0.right_side) l.lb w3.read_i32s-right_side.ensures)
+    (run_at u32_kind _ (in_value s value g.at (right_tolerance_in g.n) field.value q.0.right_tolerance_lem) l.lf w4.read_u32s-right_tolerance.ensures) in
     answer_goes_on field.is OutsideLimits told.in_default.is w.0 (λ _. w.1) c.check.ensures
 
 pub overflow_add-value : goal.overflow_add-value

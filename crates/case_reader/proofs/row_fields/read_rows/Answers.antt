@@ -16,7 +16,7 @@ returns-in-Refused c = let w = c in
 pub overflow_add-p : goal.overflow_add-p
 overflow_add-p c = let w = c in
     let h = past _ _ _ _ c.loop-i.invariant _ (read_status w.read_row-row.ensures) c.in_default.is in
-    omega (arith, h, c.good, c.row_places-places.ensures.size)
+    omega (arith, h, c.well_formed, c.row_places-places.ensures.size)
 
 pub loop-i-preserved : goal.loop-i-preserved
 loop-i-preserved c = let w = c in
