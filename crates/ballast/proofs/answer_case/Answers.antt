@@ -22,7 +22,7 @@ returns-in-Refused c =
 pub answer_condition-kept-requires : goal.answer_condition-kept-requires
 answer_condition-kept-requires c =
     let file : List ℕ = c.args.input.now in
-    let lists : CaseLists = let e = c.read_case-head.new.1 in case_lists e.0 e.1.0 e.1.1.0 e.1.1.1.0 e.1.1.1.1.0 in
+    let lists : CaseLists = let e = c.read_case-head.new in case_lists e.coefficients e.tolerances e.right_sides e.right_tolerances e.trial in
     let held : CaseHeld (decode file) zero_lists c.read_case-head.result lists = read_accepted (decode file) c.read_case-head.ensures c.in_default.is in
     let fit : Workable c.read_case-head.result.n c.read_case-head.result.exponent = workable file held in
     let t = c in
@@ -31,7 +31,7 @@ answer_condition-kept-requires c =
 pub returns : goal.returns
 returns c =
     let file : List ℕ = c.args.input.now in
-    let lists : CaseLists = let e = c.read_case-head.new.1 in case_lists e.0 e.1.0 e.1.1.0 e.1.1.1.0 e.1.1.1.1.0 in
+    let lists : CaseLists = let e = c.read_case-head.new in case_lists e.coefficients e.tolerances e.right_sides e.right_tolerances e.trial in
     let held : CaseHeld (decode file) zero_lists c.read_case-head.result lists = read_accepted (decode file) c.read_case-head.ensures c.in_default.is in
     let t = c in
     let d = t in
@@ -40,7 +40,7 @@ returns c =
 pub power_of_ten-scale-requires : goal.power_of_ten-scale-requires
 power_of_ten-scale-requires c =
     let file : List ℕ = c.args.input.now in
-    let lists : CaseLists = let e = c.read_case-head.new.1 in case_lists e.0 e.1.0 e.1.1.0 e.1.1.1.0 e.1.1.1.1.0 in
+    let lists : CaseLists = let e = c.read_case-head.new in case_lists e.coefficients e.tolerances e.right_sides e.right_tolerances e.trial in
     let held : CaseHeld (decode file) zero_lists c.read_case-head.result lists = read_accepted (decode file) c.read_case-head.ensures c.in_default.is in
     let fit : Workable c.read_case-head.result.n c.read_case-head.result.exponent = workable file held in
     omega (arith, fit.exponent_small)

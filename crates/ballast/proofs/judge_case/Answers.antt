@@ -20,7 +20,7 @@ returns-then-out-lt-LONGEST_RECORD c =
 pub returns-in-Refused : goal.returns-in-Refused
 unfolding judge_result record_result
 returns-in-Refused c =
-    let answer : Answer = let e = c.answer_case-answer.last.1 in answer_from c.answer_case-answer.result e.0 e.1.0 e.1.1.0 in
+    let answer : Answer = let e = c.answer_case-answer.new in answer_from c.answer_case-answer.result e.trial e.residuals e.reaches in
     let answer_is : answer ≡ answer_of (decode c.args.input.now) = same_answer _ _ c.answer_case-answer.ensures in
     let k = c in
     let a = c.args in
@@ -30,7 +30,7 @@ returns-in-Refused c =
 
 pub write_record-requires : goal.write_record-requires
 write_record-requires c =
-    let answer : Answer = let e = c.answer_case-answer.last.1 in answer_from c.answer_case-answer.result e.0 e.1.0 e.1.1.0 in
+    let answer : Answer = let e = c.answer_case-answer.new in answer_from c.answer_case-answer.result e.trial e.residuals e.reaches in
     let answer_is : answer ≡ answer_of (decode c.args.input.now) = same_answer _ _ c.answer_case-answer.ensures in
     let e = c in
     let k = e in
@@ -39,7 +39,7 @@ write_record-requires c =
 pub returns : goal.returns
 unfolding judge_result record_result
 returns c =
-    let answer : Answer = let e = c.answer_case-answer.last.1 in answer_from c.answer_case-answer.result e.0 e.1.0 e.1.1.0 in
+    let answer : Answer = let e = c.answer_case-answer.new in answer_from c.answer_case-answer.result e.trial e.residuals e.reaches in
     let answer_is : answer ≡ answer_of (decode c.args.input.now) = same_answer _ _ c.answer_case-answer.ensures in
     let e = c in
     let k = e in
