@@ -20,3 +20,9 @@ returns c =
     let e = c in
     let z = e in
     wrote_then (omega arith) c.write_bytes-after_first.ensures (wrote_then (omega arith) z.write_bytes-after_size.ensures e.write_entries.ensures)
+
+pub overflow_cast-digit : goal.overflow_cast-digit
+overflow_cast-digit c = omega (arith, (matrix_fine _ _ c.requires.0).small)
+
+pub overflow_add-digit : goal.overflow_add-digit
+overflow_add-digit c = omega (arith, (matrix_fine _ _ c.requires.0).small)
