@@ -1,4 +1,5 @@
 -- `soundings::all_inside` meets its contract: the law of testing loops. Assumes nothing.
+use native.Mathlib.Omega.{arith}
 use Prim.Native.Nat.{◌-◌}
 use borrow.Author.Rules.{rules}
 use lib.IntN.{pos}
@@ -16,7 +17,7 @@ loop-j-preserved c =
     let l = c in
     let a = l.args in
     let y = get_or a.answer.now l.loop-j.j (pos 0) in
-    let same : to_z w32 (of_z w32 y) ≡ y = to_z-of_z (record { sfits = c.inside-arg-1.given }) in
+    let same : to_z w32 (of_z w32 y) ≡ y = to_z-of_z {w = w32} (record { sfits = omega arith }) in
     test_turn l.loop-j.invariant (pos 0) c.loop-j-test.true (rw same at c.inside-fine.ensures)
 
 pub loop-j-init : goal.loop-j-init

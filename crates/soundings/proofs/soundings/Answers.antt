@@ -25,7 +25,7 @@ returns-in-Refused c =
     let input' : List ℕ = c.args.input.now in
     let out' : List ℕ = c.args.out.now in
     let answer : Answer = let e = c.answer_case-answer.new in answer_from c.answer_case-answer.result e.trial e.residuals e.reaches in
-    let enough : soundings_room ≤ length out' = omega (arith, c.if-out-lt-SOUNDINGS_ROOM.left) in
+    let enough : soundings_room ≤ length out' = omega arith in
     let answer_is : answer ≡ answer_of (decode input') = same_answer _ _ c.answer_case-answer.ensures in
     let k = c in
     soundings_refused reference_tank_entries _ out' _ enough (ap (λ y. y.solution.status) (sym answer_is) ∙ c.in-Refused.is)
@@ -47,19 +47,24 @@ slice_bounds-trial-end c =
     bounded.places
 
 pub slice_bounds-write_soundings-end-2 : goal.slice_bounds-write_soundings-end-2
-slice_bounds-write_soundings-end-2 c = sym (length-take-le _ _ (array_share_prefix_trial c))
+slice_bounds-write_soundings-end-2 c =
+    let input' : List ℕ = c.args.input.now in
+    let answer : Answer = let e = c.answer_case-answer.new in answer_from c.answer_case-answer.result e.trial e.residuals e.reaches in
+    let answer_is : answer ≡ answer_of (decode input') = same_answer _ _ c.answer_case-answer.ensures in
+    let bounded : AnswerBounded answer = answer_bounded input' answer answer_is c.in_default.is in
+    sym (length-take-le _ _ bounded.places)
 
 pub write_soundings-requires : goal.write_soundings-requires
 write_soundings-requires c =
     let input' : List ℕ = c.args.input.now in
     let out' : List ℕ = c.args.out.now in
     let answer : Answer = let e = c.answer_case-answer.new in answer_from c.answer_case-answer.result e.trial e.residuals e.reaches in
-    let enough : soundings_room ≤ length out' = omega (arith, c.if-out-lt-SOUNDINGS_ROOM.left) in
+    let enough : soundings_room ≤ length out' = omega arith in
     let answer_is : answer ≡ answer_of (decode input') = same_answer _ _ c.answer_case-answer.ensures in
     let bounded : AnswerBounded answer = answer_bounded input' answer answer_is c.in_default.is in
     let e = c in
     let k = c in
-    let n = sym (slice_aggregate_write_soundings_2 c) in
+    let n = length-take-le _ _ bounded.places in
     (rw c.reference_tank-table.ensures reference_usable, omega (arith, n, bounded.recordable.rows, enough))
 
 pub returns : goal.returns
@@ -68,7 +73,7 @@ returns c =
     let input' : List ℕ = c.args.input.now in
     let out' : List ℕ = c.args.out.now in
     let answer : Answer = let e = c.answer_case-answer.new in answer_from c.answer_case-answer.result e.trial e.residuals e.reaches in
-    let enough : soundings_room ≤ length out' = omega (arith, c.if-out-lt-SOUNDINGS_ROOM.left) in
+    let enough : soundings_room ≤ length out' = omega arith in
     let answer_is : answer ≡ answer_of (decode input') = same_answer _ _ c.answer_case-answer.ensures in
     let p = c in
     let t = p in

@@ -18,14 +18,14 @@ use Rattle.soundings.proofs.write_depths.Goals as goal
 pub depth-depth-requires : goal.depth-depth-requires
 depth-depth-requires c =
     let answer : ℤ = get_or c.args.answer.now c.loop-j.j (pos 0) in
-    let same : to_z w32 (of_z w32 answer) ≡ answer = to_z-of_z (record { sfits = c.depth-arg-1.given }) in
+    let same : to_z w32 (of_z w32 answer) ≡ answer = to_z-of_z {w = w32} (record { sfits = omega arith }) in
     let within : inside c.args.table.now c.args.scale answer ≡ true = inside_at c.requires.usable c.args.scale c.args.answer.now c.requires.inside c.loop-j.j in
     rw same (searchable c.requires.usable c.args.scale answer within)
 
 pub overflow_cast-depth : goal.overflow_cast-depth
 overflow_cast-depth c =
     let answer : ℤ = get_or c.args.answer.now c.loop-j.j (pos 0) in
-    let same : to_z w32 (of_z w32 answer) ≡ answer = to_z-of_z (record { sfits = c.depth-arg-1.given }) in
+    let same : to_z w32 (of_z w32 answer) ≡ answer = to_z-of_z {w = w32} (record { sfits = omega arith }) in
     let within : inside c.args.table.now c.args.scale answer ≡ true = inside_at c.requires.usable c.args.scale c.args.answer.now c.requires.inside c.loop-j.j in
     let a = c in
     let s = c in
@@ -39,7 +39,7 @@ overflow_cast-depth c =
 pub loop-j-preserved : goal.loop-j-preserved
 loop-j-preserved c =
     let answer : ℤ = get_or c.args.answer.now c.loop-j.j (pos 0) in
-    let same : to_z w32 (of_z w32 answer) ≡ answer = to_z-of_z (record { sfits = c.depth-arg-1.given }) in
+    let same : to_z w32 (of_z w32 answer) ≡ answer = to_z-of_z {w = w32} (record { sfits = omega arith }) in
     let d = c in
     let l = d in
     run_turn_lent l.loop-j.invariant d.loop-j-test.true (length_figure u16_kind _)
