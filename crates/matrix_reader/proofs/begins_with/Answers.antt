@@ -1,10 +1,9 @@
--- `matrix_reader::begins_with` meets its contract. The loop's invariant: the test of the bytes that are done and of those that are left is the word's.
+-- `matrix_reader::begins_with` meets its contract.
+-- The loop's invariant: the test of the bytes that are done and of those that are left is the word's.
 -- Assumes nothing.
-use Prim.Native.Nat.{◌-◌}
-use lib.ListN.{length}
 use mathlib.Core.Path.{refl, sym}
 use native.Mathlib.Omega.{arith}
-use Rattle.buffer.specs.LeadingLaws.{begins_short, Comparing, compare_begun, compare_turn, compare_ended}
+use Rattle.buffer.specs.LeadingLaws.{begins_short, compare_begun, compare_turn, compare_ended}
 use Rattle.matrix_reader.proofs.begins_with.Goals as goal
 
 pub returns-then-text-word : goal.returns-then-text-word

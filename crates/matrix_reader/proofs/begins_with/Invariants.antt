@@ -1,8 +1,6 @@
 use Prim.Native.Nat.{◌-◌}
 use lib.ListN.{length}
-use mathlib.Core.Path.{refl, sym}
-use native.Mathlib.Omega.{arith}
-use Rattle.buffer.specs.LeadingLaws.{begins_short, Comparing, compare_begun, compare_turn, compare_ended}
+use Rattle.buffer.specs.LeadingLaws.{Comparing}
 use Rattle.matrix_reader.proofs.begins_with.Given as goal
 
 abbrev pub invariant-loop-i : goal.invariant-loop-i

@@ -1,10 +1,9 @@
--- `matrix_reader::comment_bytes` meets its contract. The loop's invariant: what is left behind the comment lines from here on is what is left behind all.
+-- `matrix_reader::comment_bytes` meets its contract.
+-- The loop's invariant: what is left behind the comment lines from here on is what is left behind all.
 -- Assumes nothing.
-use Prim.Native.Nat.{◌-◌}
-use lib.ListN.{length}
 use mathlib.Core.Path.{refl}
 use native.Mathlib.Omega.{arith}
-use Rattle.matrix_reader.specs.PartLaws.{PassingComments, pass_begun, pass_turn, pass_stopped, pass_ended}
+use Rattle.matrix_reader.specs.PartLaws.{pass_begun, pass_turn, pass_stopped, pass_ended}
 use Rattle.matrix_reader.proofs.comment_bytes.Goals as goal
 
 pub loop-k-init : goal.loop-k-init

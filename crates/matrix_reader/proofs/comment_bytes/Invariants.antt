@@ -1,8 +1,6 @@
 use Prim.Native.Nat.{◌-◌}
 use lib.ListN.{length}
-use mathlib.Core.Path.{refl}
-use native.Mathlib.Omega.{arith}
-use Rattle.matrix_reader.specs.PartLaws.{PassingComments, pass_begun, pass_turn, pass_stopped, pass_ended}
+use Rattle.matrix_reader.specs.PartLaws.{PassingComments}
 use Rattle.matrix_reader.proofs.comment_bytes.Given as goal
 
 abbrev pub invariant-loop-k : goal.invariant-loop-k

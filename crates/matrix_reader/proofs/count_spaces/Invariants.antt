@@ -1,7 +1,6 @@
 use Prim.Native.Nat.{◌-◌}
 use lib.ListN.{length}
-use native.Mathlib.Omega.{arith}
-use Rattle.buffer.specs.LeadingLaws.{Counting, count_begun, count_turn, count_stopped, count_ended}
+use Rattle.buffer.specs.LeadingLaws.{Counting}
 use Rattle.matrixfile.specs.Read.{is_space}
 use Rattle.matrix_reader.proofs.count_spaces.Given as goal
 
