@@ -1,4 +1,4 @@
-// Laws of whole numbers, in specs/, and in code the absolute value, the powers of ten that an exponent of a case asks, and what they scale.
+// Laws of whole numbers, in specs/ and proofs/, and in code the absolute value, the powers of ten that an exponent of a case asks, and what they scale.
 #![tactic(auto)]
 
 ghost use Rattle.std.specs.Prelude.{◌^◌, ◌<◌, ◌≤◌, pos, nat_abs, ◌*ℤ◌, ◌≡◌};

@@ -1,4 +1,4 @@
-// Matrix Market files of coefficients: the text that is written, how a text is read, and the laws of both, in specs/; and in code the first line, the length
+// Matrix Market files of coefficients: the text that is written, how a text is read, and the laws of both, in specs/ and proofs/; and in code the first line, the length
 // of the longest text and the most digits of an entry.
 #![tactic(auto)]
 
