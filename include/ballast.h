@@ -1,4 +1,5 @@
-/* Ballast cases, judged exactly. The library is target/staticlib/libballast_c.a; `rt staticlib ballast_c` proves it and writes it, for x86-64.
+/* Ballast cases, judged exactly. The library is crates/ballast_c/out/libballast_c.a; `rt lib` in crates/ballast_c proves it and writes it, for x86-64
+ * (x86-64-v2).
  *
  * A case is a file of n moment equations over n tanks, with the tolerance of each figure, an exponent e (an answer Y means Y / 10^e tonnes) and
  * the number of rounds, or with 0 rounds a trial answer of its own. A record is the judged answer; soundings are the answer's depths in the
