@@ -7,7 +7,6 @@ use Rattle.judge.specs.Finding.{Agrees, finding}
 use Rattle.judge.specs.System.{System, Trial, trial}
 use Rattle.solver.proofs.Sizes.{residual_le}
 use Rattle.solver.specs.Solution.{Solution}
-use Rattle.outcome.specs.declared.Status.TheVariants.{Accepted}
 use Rattle.casefile.specs.Case.{Case}
 use Rattle.casefile.proofs.CaseLaws.{Good, decode_good}
 use Rattle.casefile.specs.Decode.{decode}
@@ -17,6 +16,7 @@ use Rattle.ballast.proofs.Bounds.{limits, ranges, reach_le}
 use Rattle.ballast.specs.Call.{Answer, scale_of, system_of, case_solution, in_places, answer_with, answer_of}
 use Rattle.ballast.proofs.CallLaws.{answering}
 use Rattle.ballast.proofs.Theorem.{placed_answer, recordable}
+use Rattle.outcome.specs.Outcome.{Accepted}
 
 pub record AnswerBounded (x : Answer) : Type 0 where
   pub recordable : Recordable x.n x.solution.rounds x.solution.judgement

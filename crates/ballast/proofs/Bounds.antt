@@ -12,7 +12,7 @@ use Rattle.casefile.specs.Decode.{decode}
 use Rattle.casefile.proofs.StoredLaws.{get_d_padded, padded_within}
 use Rattle.case_reader.specs.Read.{CaseLists}
 use Rattle.case_reader.specs.ReadLaws.{CaseHeld}
-use Rattle.case_reader.specs.declared.CaseHead.{CaseHead}
+use Rattle.casefile.specs.declared.CaseHead.{CaseHead}
 use Rattle.ballast.specs.Call.{scale_of, system_of}
 
 scale_le : (e : ℕ) → e ≤ most_exponent → scale_of e ≤ scale_limit

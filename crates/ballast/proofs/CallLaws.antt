@@ -1,26 +1,29 @@
 -- The answer's definition, case by case, as the code meets it. Assumes nothing.
-use Rattle.std.specs.Prelude.{ℕ, zero, suc, ℤ, pos, length, drop, replicate, List, [], ◌++◌, ◌≡◌, refl}
+use Rattle.std.specs.Prelude.{ℕ, zero, suc, ℤ, pos, length, drop, replicate, List, [], ◌++◌, ◌≡◌, refl, Result, Err}
 use Rattle.std.proofs.Common.{append-nil, sym, ap, ◌∙◌}
 use Rattle.limits.specs.Limits.{most_tanks, most_coefficients}
 use Rattle.rows.specs.Block.{over}
 use Rattle.judge.specs.Judgement.{Judgement, judgement}
 use Rattle.judge.proofs.SameFigures.{SameFigures, same_judgement}
 use Rattle.judge.specs.System.{System, trial}
+use Rattle.judge.specs.declared.MeasuredTrial.{MeasuredTrial}
 use Rattle.solver.proofs.Answers.{trial_places}
 use Rattle.solver.proofs.Outcomes.{solution_promised, same_solution}
 use Rattle.solver.proofs.SameFigures.{solution_same_figures}
-use Rattle.solver.specs.Solution.{Solution, solution, SolutionIs}
+use Rattle.solver.specs.Solution.{Solution, solution_from, solution, SolutionIs}
+use Rattle.solver.specs.declared.Kept.{Kept}
+use Rattle.solver.specs.declared.Unsolved.{Unsolved}
 use Rattle.outcome.proofs.Laws.{not_both}
 use Rattle.outcome.specs.declared.Refusal.{Refusal}
-use Rattle.outcome.specs.declared.Status.TheVariants.{Accepted, Refused}
 use Rattle.casefile.specs.Case.{Case}
 use Rattle.casefile.specs.Decode.{Decoded, accepted, refused, padded, places}
 use Rattle.casefile.proofs.StoredLaws.{get_d_padded}
 use Rattle.case_reader.specs.Read.{CaseLists, zero_lists, lists_read, CaseReadInto}
 use Rattle.case_reader.specs.ReadLaws.{CaseHeld}
-use Rattle.case_reader.specs.declared.CaseHead.{CaseHead}
+use Rattle.casefile.specs.declared.CaseHead.{CaseHead}
 use Rattle.ballast.specs.Call.{Answer, scale_of, system_of, condition_solution, case_solution, in_places, answer_with, answer_from, no_answer, answer_of, AnswerIs}
 use Rattle.ballast.specs.declared.Answered.{Answered}
+use Rattle.outcome.specs.Outcome.{Accepted}
 
 -- ---- zeros behind a case's figures change nothing
 
@@ -76,7 +79,7 @@ pub record Answering (d : Decoded) : Type 0 where
 pub answering : (d : Decoded) → (answer_of d).solution.status ≡ Accepted → Answering d
 unfolding answer_of
 answering (accepted c) e = record { figures = c; decoded = refl; answered = e }
-answering (refused r) e = not_both (Refused r) r refl e
+answering (refused r) e = not_both (Err r) r refl e
 
 module _ (r x : Answer) where
   pub answer_promised : r ≡ x → AnswerIs r x
@@ -91,6 +94,11 @@ module _ (r x : Answer) where
   same_answer h =
       λ i. record { n = h.n i; exponent = h.exponent i; solution = same_solution r.solution x.solution h.solution i }
 
+-- the answer where what is kept is known: an answer, or why there is none
+pub kept_answer : (r : Answered) (t : MeasuredTrial) {q : Result Kept Unsolved} {x : Answer} → r.kept ≡ q → AnswerIs (answer_from r t) x
+    → answer_with r.n r.exponent (solution_from q t) ≡ x
+kept_answer r t e w = ap (λ k. answer_with r.n r.exponent (solution_from k t)) (sym e) ∙ same_answer _ _ w
+
 -- the case that was read of d into lists of zeros, and what was worked out over them
 pub answer_read : (d : Decoded) {r : CaseHead} {lists : CaseLists} → CaseHeld d zero_lists r lists → (D : ℕ) → D ≡ scale_of r.exponent → (a : Solution)
     → SolutionIs a (condition_solution (held_system r lists) D r.rounds lists.Y) → AnswerIs (answer_with r.n r.exponent a) (answer_of d)
@@ -101,12 +109,7 @@ answer_read d w D s a e =
     let h : a ≡ in_places (case_solution c) = same_solution _ _ e ∙ rw (w.head, w.lists, q) (condition_held c (scale_of c.exponent) c.rounds) in
     answer_promised _ _ (rw (h, w.head, w.decoded))
 
--- beside a refusal the trial's places are zero
-pub refused_trial : {d : Decoded} {before after : CaseLists} {r : CaseHead} (q : Refusal) → CaseReadInto d before r after → d ≡ refused q → after.Y ≡ replicate most_tanks (pos 0)
-refused_trial {before = before} q w e = ap (λ (l : CaseLists). l.Y) (w.lists ∙ ap (λ (x : Decoded). lists_read x before) e)
-
 -- a refusal of the reading is the answer of the file
-pub refusal_read : (d : Decoded) (q : Refusal) → d ≡ refused q → (r : Answered) {Y R : List ℤ} {T : List ℕ} → Y ≡ replicate most_tanks (pos 0)
-    → AnswerIs (answer_from r (replicate most_tanks (pos 0)) R T) (no_answer q) → AnswerIs (answer_from r Y R T) (answer_of d)
+pub refusal_read : (d : Decoded) (q : Refusal) → d ≡ refused q → (r : Answer) → r ≡ no_answer q → AnswerIs r (answer_of d)
 unfolding answer_of
-refusal_read d q e r h s = rw (e, h) s
+refusal_read d q e r h = answer_promised _ _ (rw (h, e))

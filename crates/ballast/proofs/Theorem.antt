@@ -1,6 +1,6 @@
 -- The third demand holds of every record that the call leaves: what is read off the bytes is the judgement of the recorded answer, and that is
 -- justified by the theorem of Oettli and Prager. Assumes nothing.
-use Rattle.std.specs.Prelude.{ℕ, zero, suc, ◌^◌, ◌≤◌, ◌<◌, ℤ, pos, length, get_or, List, ◌≡◌, refl}
+use Rattle.std.specs.Prelude.{ℕ, zero, suc, ◌^◌, ◌≤◌, ◌<◌, ℤ, pos, length, get_or, List, ◌≡◌, refl, Ok}
 use Rattle.std.proofs.Common.{sym, ◌∙◌, SFits, arith}
 use Rattle.std.proofs.Math.Path.{ap, subst}
 use Rattle.std.specs.Int.{w32, w64}
@@ -19,10 +19,7 @@ use Rattle.solver.specs.Solution.{Solution}
 use Rattle.outcome.specs.CallResult.{check_room, call_result}
 use Rattle.outcome.proofs.CallResultLaws.{WrittenCount, written_count}
 use Rattle.outcome.proofs.Laws.{first_right}
-use Rattle.outcome.specs.Outcome.{reported_outcome}
-use Rattle.outcome.specs.declared.Outcome.{Outcome}
-use Rattle.outcome.specs.declared.Outcome.TheVariants.{Count}
-use Rattle.outcome.specs.declared.Status.TheVariants.{Accepted}
+use Rattle.outcome.specs.Outcome.{reported_outcome, Accepted, Outcome}
 use Rattle.casefile.specs.Case.{Case}
 use Rattle.casefile.proofs.CaseLaws.{Good, decode_good}
 use Rattle.casefile.specs.Decode.{decode}
@@ -134,7 +131,7 @@ module _ (c : Case) (g : Good c) where
 -- ---- the call
 
 -- a count comes only from an answer, and the bytes at the buffer's front are its record
-module _ (input out : List ℕ) (m : ℕ) (e : (judge_result input out).outcome ≡ reported_outcome (Count m)) where
+module _ (input out : List ℕ) (m : ℕ) (e : (judge_result input out).outcome ≡ reported_outcome (Ok m)) where
   abbrev x : FileAnswer
   x = answer_of (decode input)
 

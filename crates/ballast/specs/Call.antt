@@ -3,6 +3,7 @@
 use Rattle.std.specs.Prelude.{ℕ, ◌^◌, ℤ, pos, length, replicate, false, List, ◌≡◌}
 use Rattle.limits.specs.Limits.{most_tanks}
 use Rattle.judge.specs.System.{System}
+use Rattle.judge.specs.declared.MeasuredTrial.{MeasuredTrial}
 use Rattle.solver.specs.Refinement.{Progress, nothing_said_yet}
 use Rattle.solver.specs.Solution.{Solution, solution_from, judged_trial, refused_solution, solution, SolutionIs}
 use Rattle.outcome.specs.CallResult.{CallResult, write_if_accepted, check_room}
@@ -37,9 +38,9 @@ pub record Answer : Type 0 where
   pub exponent : ℕ
   pub solution : Solution
 
--- by what is returned, and the trial, the residuals and the reaches that are lent
-abbrev pub answer_from : Answered → List ℤ → List ℤ → List ℕ → Answer
-answer_from r Y R T = record { n = r.n; exponent = r.exponent; solution = solution_from r.kept Y R T }
+-- by what is returned, and the trial that is lent
+abbrev pub answer_from : Answered → MeasuredTrial → Answer
+answer_from r t = record { n = r.n; exponent = r.exponent; solution = solution_from r.kept t }
 
 -- the answer in the places that are there for any case: zeros stand behind a trial that is brought
 abbrev pub in_places : Solution → Solution

@@ -1,14 +1,12 @@
 -- Definitions only.
 -- The third demand, in one piece, about the case's figures and the bytes that the call left.
-use Rattle.std.specs.Prelude.{ℕ, ◌<◌, ◌≤◌, pos, get_or, take, List, ◌≡◌}
+use Rattle.std.specs.Prelude.{ℕ, ◌<◌, ◌≤◌, pos, get_or, take, List, ◌≡◌, Ok}
 use Rattle.judge.specs.Finding.{Justified}
 use Rattle.judge.specs.System.{System, Trial}
 use Rattle.solver.specs.Claims.{KeptOfRounds}
 use Rattle.solver.specs.Solution.{Solution}
 use Rattle.outcome.specs.CallResult.{call_result}
-use Rattle.outcome.specs.Outcome.{reported_outcome}
-use Rattle.outcome.specs.declared.Outcome.{Outcome}
-use Rattle.outcome.specs.declared.Outcome.TheVariants.{Count}
+use Rattle.outcome.specs.Outcome.{reported_outcome, Outcome}
 use Rattle.casefile.specs.Case.{Case}
 use Rattle.casefile.specs.Decode.{accepted, decode}
 use Rattle.recordfile.specs.ReadOff.{recorded_rounds, recorded_answer, recorded_finding}
@@ -36,7 +34,7 @@ pub record Demand (input buffer : List ℕ) (m : ℕ) : Type 0 where
   pub kept : 1 ≤ case.rounds → KeptOfRounds (system_of case) (scale_of case.exponent) case.rounds (case_solution case)
 
 abbrev pub Demanded : List ℕ → Outcome → List ℕ → Type 0
-Demanded input outcome buffer = (m : ℕ) → reported_outcome outcome ≡ reported_outcome (Count m) → Demand input buffer m
+Demanded input outcome buffer = (m : ℕ) → reported_outcome outcome ≡ reported_outcome (Ok m) → Demand input buffer m
 
 -- what the call promises: its answer and the buffer are those of the definition, and every record is justified
 pub record Promise (input entry : List ℕ) (outcome : Outcome) (exit : List ℕ) : Type 0 where

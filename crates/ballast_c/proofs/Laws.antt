@@ -1,11 +1,9 @@
 -- The C functions' definitions as the code meets them: every count is small, and each call behind them gives what they promise. Assumes nothing.
-use Rattle.std.specs.Prelude.{ℕ, ◌≤◌, ℤ, List, ◌≡◌}
+use Rattle.std.specs.Prelude.{ℕ, ◌≤◌, ℤ, List, ◌≡◌, Err, Ok}
 use Rattle.std.proofs.Common.{sym, ap, ◌∙◌, arith}
 use Rattle.outcome.specs.CallResult.{LentResult, call_result}
 use Rattle.outcome.proofs.Laws.{no_count}
-use Rattle.outcome.specs.Outcome.{reported_outcome}
-use Rattle.outcome.specs.declared.Outcome.{Outcome}
-use Rattle.outcome.specs.declared.Outcome.TheVariants.{Count, Refused}
+use Rattle.outcome.specs.Outcome.{reported_outcome, Outcome}
 use Rattle.outcome.specs.declared.Refusal.{Refusal}
 use Rattle.casefile.specs.Case.{Case}
 use Rattle.casefile.proofs.CaseLaws.{decode_good}
@@ -14,7 +12,7 @@ use Rattle.casefile.specs.Write.{write}
 use Rattle.casefile.proofs.WriteLaws.{count_le as case_count_le}
 use Rattle.case_reader.specs.Read.{CaseLists}
 use Rattle.case_reader.specs.ReadLaws.{CaseHeld}
-use Rattle.case_reader.specs.declared.CaseHead.{CaseHead}
+use Rattle.casefile.specs.declared.CaseHead.{CaseHead}
 use Rattle.ballast.specs.Demand.{Promise}
 use Rattle.ballast.proofs.Theorem.{count_le}
 use Rattle.soundings.proofs.SoundedLaws.{soundings_count_le}
@@ -32,26 +30,26 @@ use Rattle.ballast_c.proofs.ResultLaws.{returned, number_count}
 
 -- ---- the result number
 
-pub small_refused : (r : Refusal) → CountFits (Refused r)
+pub small_refused : (r : Refusal) → CountFits (Err r)
 small_refused r = record { count = λ m e. no_count r m (ap reported_outcome e) }
 
-pub small_count : (k : ℕ) → k ≤ text_room → CountFits (Count k)
+pub small_count : (k : ℕ) → k ≤ text_room → CountFits (Ok k)
 small_count k h = record { count = λ m e. let q : k ≡ m = cc in omega arith }
 
 -- of a call whose every count is within the largest room
-pub call_small : {X : Type 0} {exit : List X} {w : LentResult X} (o : Outcome) → call_result o exit ≡ w → ((m : ℕ) → w.outcome ≡ reported_outcome (Count m) → m ≤ text_room) → CountFits o
+pub call_small : {X : Type 0} {exit : List X} {w : LentResult X} (o : Outcome) → call_result o exit ≡ w → ((m : ℕ) → w.outcome ≡ reported_outcome (Ok m) → m ≤ text_room) → CountFits o
 call_small o p le = record { count = λ m e. omega (arith, le m (ap (λ x. x.outcome) (sym p) ∙ ap reported_outcome e)) }
 
 -- ---- reading
 
-pub tanks_refused : (d : Decoded) (r : Refusal) → d ≡ refused r → Refused r ≡ tank_count d
+pub tanks_refused : (d : Decoded) (r : Refusal) → d ≡ refused r → Err r ≡ tank_count d
 unfolding tank_count
 tanks_refused d r e = rw e
 
 module _ (input : List ℕ) (r : CaseHead) {before after : CaseLists} (w : CaseHeld (decode input) before r after) where
-  pub tanks_accepted : Count r.n ≡ tank_count (decode input)
+  pub tanks_accepted : Ok r.n ≡ tank_count (decode input)
   unfolding tank_count
-  tanks_accepted = rw w.decoded (ap (λ x. Count x.n) w.head)
+  tanks_accepted = rw w.decoded (ap (λ x. Ok x.n) w.head)
 
   pub few_tanks : r.n ≤ text_room
   few_tanks = omega (arith, ap (λ x. x.n) w.head, (decode_good input w.figures w.decoded).limits.small)

@@ -12,17 +12,17 @@ ghost use Rattle.matrixfile.specs.Text.{matrix_writing};
 ghost use Rattle.ballast_c.specs.Calls.{tank_count, Judged};
 ghost use Rattle.ballast_c.specs.Result.{result_number, CountFits, Returned};
 
-use limits::{MOST_COEFFICIENTS, MOST_TANKS};
-use outcome::{Outcome, Status};
+use casefile::{CaseHead, CaseLists, NO_FIGURES};
+use outcome::Refusal;
 
 // A count, or a refusal's number below zero.
-fn result(outcome: Outcome) -> i64
+fn result(outcome: Result<usize, Refusal>) -> i64
     requires { CountFits outcome }
     ensures { result ≡ result_number outcome }
 {
     match outcome {
-        Outcome::Count(count) => count as i64,
-        Outcome::Refused(refusal) => 0 - (outcome::number(refusal) as i64),
+        Ok(count) => count as i64,
+        Err(refusal) => -i64::from(refusal.number()),
     }
 }
 
@@ -31,24 +31,11 @@ fn result(outcome: Outcome) -> i64
 pub extern "C" fn ballast_check_case(input: &[u8]) -> i64
     ensures { result ≡ result_number (tank_count (decode input.now)) }
 {
-    let mut coefficients = [0i16; MOST_COEFFICIENTS];
-    let mut tolerances = [0u16; MOST_COEFFICIENTS];
-    let mut right_sides = [0i32; MOST_TANKS];
-    let mut right_tolerances = [0u32; MOST_TANKS];
-    let mut trial = [0i32; MOST_TANKS];
-    let head = case_reader::read_case(
-        input,
-        &mut coefficients,
-        &mut tolerances,
-        &mut right_sides,
-        &mut right_tolerances,
-        &mut trial,
-    );
-    let status = head.status;
-    if let Status::Refused(refusal) = status {
-        return result(Outcome::Refused(refusal));
+    let mut figures = NO_FIGURES;
+    match case_reader::read_case(input, &mut figures) {
+        Ok(head) => result(Ok(head.n)),
+        Err(refusal) => result(Err(refusal)),
     }
-    result(Outcome::Count(head.n))
 }
 
 // Judges a case into a buffer.
@@ -90,17 +77,19 @@ pub extern "C" fn ballast_write_case(
 ) -> i64
     ensures { Returned result out.new (write (case_of_lists n exponent rounds coefficients.now tolerances.now right_sides.now right_tolerances.now trial.now) out.old) }
 {
-    result(case_writer::write_case(
-        n,
-        exponent,
-        rounds,
+    let case = CaseLists {
+        head: CaseHead {
+            n,
+            exponent,
+            rounds,
+        },
         coefficients,
         tolerances,
         right_sides,
         right_tolerances,
         trial,
-        out,
-    ))
+    };
+    result(case_writer::write_case(case, out))
 }
 
 // Reads a Matrix Market file into a list of coefficients.

@@ -9,11 +9,11 @@ use Rattle.buffer.specs.Laws.{part, put}
 use Rattle.buffer.specs.WroteLaws.{onto_two}
 use Rattle.bigendian.specs.Number.{be, be_bytes, byte, Bytes}
 
-none : Bytes []
+pub none : Bytes []
 unfolding all
 none = record { each = refl }
 
-one : {x : ℕ} {s : List ℕ} → x < 256 → Bytes s → Bytes (x ∷ s)
+pub one : {x : ℕ} {s : List ℕ} → x < 256 → Bytes s → Bytes (x ∷ s)
 unfolding all
 one {x} h b = record { each = rw (lt-ltb x 256 h, b.each) }
 
@@ -41,7 +41,7 @@ be_lt (x ∷ s) b =
     let p = parts b in
     rw (pow-suc 256 (length s), mul_comm (256 ^ length s) 256) (digits_lt p.0 (be_lt s p.1))
 
-bytes_be : (s : List ℕ) → Bytes s → be_bytes (length s) (be s) ≡ s
+pub bytes_be : (s : List ℕ) → Bytes s → be_bytes (length s) (be s) ≡ s
 unfolding be be_bytes
 bytes_be [] b = refl
 bytes_be (x ∷ s) b =

@@ -1,1 +1,3 @@
+mod CaseLaws
+mod CheckLaws
 mod WritingRows

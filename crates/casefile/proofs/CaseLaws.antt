@@ -1,6 +1,6 @@
 -- The two laws of case files: a case within its limits, encoded and decoded, is that case; bytes that decode to a case are its encoding.
 -- And what decodes is within the limits, and how long an encoding is. Assumes nothing.
-use Rattle.std.specs.Prelude.{ℕ, ◌+◌, ◌*◌, ◌≤◌, true, ◌≡◌, refl}
+use Rattle.std.specs.Prelude.{ℕ, ◌+◌, ◌*◌, ◌≤◌, true, ◌≡◌, refl, Err, Ok}
 use borrow.Author.Tests.{leb-true, le-leb, eqb-true, eq-eqb}
 use Rattle.std.proofs.Math.ListN.{length, drop}
 use Rattle.std.proofs.Common.{length-append, drop-drop, sym, ◌∙◌, subst, arith}
@@ -11,8 +11,6 @@ use Rattle.buffer.specs.Buffer.{joined}
 use Rattle.buffer.specs.RunLaws.{joined_append, concat_map}
 use Rattle.rows.specs.BlockLaws.{length_split}
 use Rattle.outcome.proofs.Laws.{check_accepted, first_left, first_right}
-use Rattle.outcome.specs.declared.Status.{Status}
-use Rattle.outcome.specs.declared.Status.TheVariants.{Accepted, Refused}
 use Rattle.bigendian.specs.Number.{be_bytes, Bytes}
 use Rattle.bigendian.specs.NumberLaws.{bytes_drop}
 use Rattle.figures.specs.Figures.{within_limit}
@@ -27,6 +25,7 @@ use Rattle.casefile.specs.Layout.{head_tag, head_length, head_value, head_field,
 use Rattle.casefile.proofs.RowsLaws.{length_row_fields, rows_back, rows_sound, rows_same, rows_fit}
 use Rattle.casefile.specs.SoundLaws.{Sound, SoundBlock, sound, sound_fine, Rows, split_sound, together_split, split_together, together_sound}
 use Rattle.casefile.proofs.TailLaws.{given_trial_most, length_trial, trial_back, trial_sound, trial_same}
+use Rattle.outcome.specs.Outcome.{Accepted, Status}
 
 -- ---- what a head that is not refused has
 
@@ -113,8 +112,8 @@ unfolding decode
 decodes s c e = go (input_status s) refl e
   where
     go : (t : Status) → input_status s ≡ t → decoded t (case_of s) ≡ accepted c → (input_status s ≡ Accepted) × (case_of s ≡ c)
-    go Accepted h q = search
-    go (Refused r) h q = search
+    go (Ok _) h q = search
+    go (Err r) h q = search
 
 module _ (s : List ℕ) (e : input_status s ≡ Accepted) where
   abbrev N : ℕ

@@ -2,13 +2,11 @@
 -- refusal. Assumes nothing.
 use Prim.Native.Nat.{ℕ, zero, suc, ◌+◌, ◌*◌, ◌≤◌}
 use Rattle.std.proofs.Common.{leb-true, leb-false, take_all, ap, arith}
-use Rattle.std.specs.Prelude.{leb, length, take, Bool, true, false, List, ◌≡◌}
+use Rattle.std.specs.Prelude.{leb, length, take, Bool, true, false, List, ◌≡◌, Err, Ok}
 use Rattle.std.proofs.Math.Path.{refl}
 use Rattle.std.proofs.Math.Nat.{suc-mul}
 use Rattle.limits.specs.Limits.{most_tanks}
 use Rattle.buffer.specs.FrontLaws.{Front, ReadsFirst, reads_get_d, reads_behind}
-use Rattle.outcome.specs.declared.Status.{Status}
-use Rattle.outcome.specs.declared.Status.TheVariants.{Accepted, Refused}
 use Rattle.figures.proofs.FigureLaws.{reads_figures}
 use Rattle.figures.specs.Figures.{i16_kind, u16_kind, i32_kind, u32_kind}
 use Rattle.figures.proofs.ItemLaws.{reads_items}
@@ -20,6 +18,7 @@ use Rattle.casefile.specs.Decode.{head_due, head_tanks, head_exponent, head_roun
 use Rattle.casefile.specs.Layout.{head_length, n_in, exponent_in, rounds_in, rows_at, row_length, row_size, tolerances_in, right_side_in, right_tolerance_in, rows_end, trial_kind, trial_length, trial_size, longest_case}
 use Rattle.casefile.proofs.RowsLaws.{rows_fit}
 use Rattle.casefile.proofs.TailLaws.{given_trial_most}
+use Rattle.outcome.specs.Outcome.{Accepted, Status}
 
 -- ---- the fields, each no further than its end
 
@@ -126,8 +125,8 @@ module _ {t s : List ℕ} (f : Front (longest_case + 1) t s) where
   front_decoded = go (head_status s) refl
     where
       go : (x : Status) → head_status s ≡ x → decode t ≡ decode s
-      go (Refused q) e = rw (head_status_lem, e)
-      go Accepted e = rw (status_is e, case_is e)
+      go (Err q) e = rw (head_status_lem, e)
+      go (Ok _) e = rw (status_is e, case_is e)
 
 -- document 01: "at most 389 bytes .., which is enough to refuse a longer one": with the refusal that the whole file has
 pub decode_front : (s : List ℕ) → decode (take (longest_case + 1) s) ≡ decode s

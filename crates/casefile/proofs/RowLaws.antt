@@ -9,7 +9,6 @@ use mathlib.Core.List.{List, ◌++◌, append_assoc}
 use native.Mathlib.Omega.{arith}
 use Rattle.limits.specs.Limits.{most_tanks}
 use Rattle.rows.specs.Block.{Block, Counts}
-use Rattle.outcome.specs.declared.Status.TheVariants.{Accepted}
 use Rattle.bigendian.specs.Number.{Bytes}
 use Rattle.bigendian.specs.NumberLaws.{bytes_drop}
 use Rattle.figures.proofs.FigureLaws.{length_spread, after_spread, figures_spread, spread_figures}
@@ -22,6 +21,7 @@ use Rattle.casefile.specs.Decode.{row_of, row_at, row_due, row_status}
 use Rattle.casefile.proofs.KindLaws.{coefficient_lawful, tolerance_lawful, right_side_lawful, right_tolerance_lawful}
 use Rattle.casefile.specs.Layout.{row_tag, row_length, row_size, right_tolerance_in, row_bytes, row_field}
 use Rattle.casefile.specs.SoundLaws.{SoundBlock, counts, sound, sound_fine}
+use Rattle.outcome.specs.Outcome.{Accepted}
 
 -- how long a row is, by its counts
 module _ {n : ℕ} {r : Block} (c : Counts n 1 r) where

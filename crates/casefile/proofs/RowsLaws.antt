@@ -8,7 +8,6 @@ use Rattle.limits.specs.Limits.{most_tanks, most_coefficients}
 use Rattle.buffer.specs.Buffer.{joined}
 use Rattle.rows.specs.Block.{Block}
 use Rattle.outcome.proofs.Laws.{first_left, first_right}
-use Rattle.outcome.specs.declared.Status.TheVariants.{Accepted}
 use Rattle.bigendian.specs.Number.{Bytes}
 use Rattle.bigendian.specs.NumberLaws.{bytes_drop}
 use Rattle.figures.specs.Figures.{items}
@@ -18,6 +17,7 @@ use Rattle.casefile.specs.Decode.{row_at, row_status, rows_status, rows_of}
 use Rattle.casefile.specs.Layout.{row_size, row_field}
 use Rattle.casefile.proofs.RowLaws.{length_row_field, row_back, row_sound, row_same}
 use Rattle.casefile.specs.SoundLaws.{counts, Rows, none, one}
+use Rattle.outcome.specs.Outcome.{Accepted}
 
 -- ---- rows that were written, with what follows them
 

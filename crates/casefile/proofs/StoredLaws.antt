@@ -1,16 +1,15 @@
 -- What a padded list holds: at every place, past the end too, what the list holds there, with zero past its end.
 -- And that what is promised of a reading is the reading. Assumes nothing.
-use Rattle.std.specs.Prelude.{ℕ, zero, suc, ◌+◌, ◌≤◌, length, get_or, drop, replicate, List, [], ◌∷◌, ◌++◌, ◌≡◌, refl}
-use Rattle.std.proofs.Common.{leb-true, le-leb, length-append, length-drop, get_or-drop, ap₂, ◌∙◌, arith}
+use Rattle.std.specs.Prelude.{ℕ, zero, suc, ◌+◌, ◌≤◌, length, get_or, drop, replicate, List, [], ◌∷◌, ◌++◌, Result, ◌≡◌, refl}
+use Rattle.std.proofs.Common.{leb-true, le-leb, length-append, length-drop, get_or-drop, ◌∙◌, arith}
 use Rattle.std.proofs.lemmas.List.{length-replicate}
 use Rattle.buffer.specs.AllLaws.{all_at}
 use Rattle.integers.specs.TableLaws.{same_at}
-use Rattle.outcome.proofs.Laws.{same_status}
-use Rattle.outcome.specs.declared.Status.{Status}
+use Rattle.outcome.specs.declared.Refusal.{Refusal}
+use Rattle.outcome.proofs.Laws.{same_answer}
 use Rattle.figures.specs.Figures.{up_to_limit}
 use Rattle.casefile.specs.Decode.{Decoded, padded, reading, CaseRead}
 use Rattle.casefile.specs.SoundLaws.{Sound}
-use Rattle.casefile.specs.declared.Reading.{Reading}
 use Rattle.casefile.specs.declared.StoredCase.{StoredCase}
 
 module _ {X : Type 0} (z : X) where
@@ -33,13 +32,6 @@ pub padded_within : {X : Type 0} (size : X → ℕ) (z : X) → size z ≡ 0 →
 padded_within size z e k limit {l = l} s i =
     rw (get_d_padded z k l i) (leb-true _ _ (all_at (λ x. up_to_limit limit (size x)) z (le-leb _ limit (omega arith)) l s.fine i))
 
-module _ (d : Decoded) (r : Reading) where
-  status_read : CaseRead d r → r.status ≡ (reading d).status
-  status_read w = same_status r.status (reading d).status w.number
-
-  -- the reading is the one defined
-  pub read_is : CaseRead d r → r ≡ reading d
-  read_is w = ap₂ made (status_read w) w.case
-    where
-      made : Status → StoredCase → Reading
-      made x c = record { status = x; case = c }
+-- the reading is the one defined
+pub read_is : (d : Decoded) (r : Result StoredCase Refusal) → CaseRead d r → r ≡ reading d
+read_is d r w = same_answer r (reading d) w.number w.case

@@ -4,7 +4,6 @@ use Rattle.std.specs.Prelude.{ℕ, zero, suc, ◌≤◌, ℤ, length, drop, List
 use Rattle.std.proofs.Common.{append-nil, ◌∙◌, arith}
 use Rattle.limits.specs.Limits.{most_tanks, trial_limit}
 use Rattle.buffer.specs.Buffer.{all}
-use Rattle.outcome.specs.declared.Status.TheVariants.{Accepted}
 use Rattle.bigendian.specs.Number.{Bytes}
 use Rattle.figures.proofs.FigureLaws.{length_spread, figures_spread, spread_figures}
 use Rattle.figures.specs.Figures.{within_limit, figures, spread}
@@ -17,6 +16,7 @@ use Rattle.casefile.specs.Decode.{trial_due, trial_status, trial_of}
 use Rattle.casefile.proofs.KindLaws.{trial_lawful}
 use Rattle.casefile.specs.Layout.{trial_tag, trial_kind, trial_length, trial_size, trial_field, trial_bytes}
 use Rattle.casefile.specs.SoundLaws.{Sound}
+use Rattle.outcome.specs.Outcome.{Accepted}
 
 -- what is due where K is above 0
 pub no_trial_given : {X : Type 0} (k : ℕ) (x y : X) → (k ≡ 0 → ⊥) → where_trial_given k x y ≡ y

@@ -1,16 +1,14 @@
 -- Demand 2's round trip, over what the writer and the reader promise: what was written is read back as what was meant, and what was read and is
 -- written again has its old bytes. Assumes nothing.
-use Rattle.std.specs.Prelude.{ℕ, ◌≤◌, take, List, ◌≡◌}
+use Rattle.std.specs.Prelude.{ℕ, ◌≤◌, take, List, ◌≡◌, Err, Ok}
 use Rattle.std.proofs.Common.{leb-true, arith}
 use Rattle.std.proofs.Math.ListN.{length}
 use Rattle.buffer.specs.Laws.{length_onto}
 use Rattle.outcome.specs.CallResult.{write_if_accepted, check_room}
 use Rattle.outcome.proofs.CallResultLaws.{WrittenCount, written_count, written_refusal}
 use Rattle.outcome.proofs.Laws.{check_accepted, first_left, first_right}
-use Rattle.outcome.specs.Outcome.{reported_outcome}
-use Rattle.outcome.specs.declared.Outcome.TheVariants.{Count, Refused as RefusedBy}
+use Rattle.outcome.specs.Outcome.{reported_outcome, Accepted}
 use Rattle.outcome.specs.declared.Refusal.{Refusal}
-use Rattle.outcome.specs.declared.Status.TheVariants.{Accepted, Refused}
 use Rattle.bigendian.specs.Number.{Bytes}
 use Rattle.casefile.specs.Case.{Case, case_status}
 use Rattle.casefile.proofs.CaseLaws.{decode_encode, encode_decode, decode_fine, longest}
@@ -20,7 +18,7 @@ use Rattle.casefile.specs.Write.{write_status, write}
 
 -- ---- written, then read
 
-module _ (c : Case) (out : List ℕ) (m : ℕ) (e : (write c out).outcome ≡ reported_outcome (Count m)) where
+module _ (c : Case) (out : List ℕ) (m : ℕ) (e : (write c out).outcome ≡ reported_outcome (Ok m)) where
   written : WrittenCount (write_status c (length out)) (encode c) out m
   unfolding write
   written = written_count (write_status c (length out)) (encode c) out m e
@@ -47,7 +45,7 @@ module _ (c : Case) (out : List ℕ) (m : ℕ) (e : (write c out).outcome ≡ re
   unfolding write
   written_read = rw written.front (decode_encode c fine.1)
 
-pub refused_status : (c : Case) (out : List ℕ) (r : Refusal) → (write c out).outcome ≡ reported_outcome (RefusedBy r) → write_status c (length out) ≡ Refused r
+pub refused_status : (c : Case) (out : List ℕ) (r : Refusal) → (write c out).outcome ≡ reported_outcome (Err r) → write_status c (length out) ≡ Err r
 unfolding write
 refused_status c out r e = written_refusal (write_status c (length out)) (encode c) out r e
 

@@ -3,9 +3,8 @@
 use Rattle.std.specs.Prelude.{ℕ, zero, suc, ◌*◌, ◌≤◌, leb, eqb, ℤ, length, Bool, ◌&&◌, List}
 use Rattle.limits.specs.Limits.{most_tanks, most_exponent, most_rounds, coefficient_limit, tolerance_limit, right_side_limit, right_tolerance_limit, trial_limit}
 use Rattle.rows.specs.Block.{Block, block}
-use Rattle.outcome.specs.Outcome.{check, first}
+use Rattle.outcome.specs.Outcome.{check, first, Status}
 use Rattle.outcome.specs.declared.Refusal.TheVariants.{WrongLength, OutsideLimits}
-use Rattle.outcome.specs.declared.Status.{Status}
 use Rattle.figures.specs.Figures.{all_up_to_limit, all_within_limit}
 
 -- document 01's n, e and K (rounds, its own term), its rows, and its trial Y

@@ -1,19 +1,18 @@
 -- Definitions only.
 -- What reading bytes as a case gives: the first refusal in document 01's order ("fields are taken from the front, and at each field 2 to 6 in
 -- turn"), or the case; and the case in arrays with zeros behind its figures, which only the round trip returns.
-use Rattle.std.specs.Prelude.{ℕ, zero, suc, ℤ, pos, get_or, drop, replicate, List, [], ◌≡◌}
+use Rattle.std.specs.Prelude.{ℕ, zero, suc, ℤ, pos, get_or, drop, replicate, List, [], ◌≡◌, Result, Ok, Err, IfOk}
 use Rattle.limits.specs.Limits.{most_tanks, most_coefficients, trial_limit}
 use Rattle.buffer.specs.Buffer.{onto}
-use Rattle.rows.specs.Block.{Block, block, over, no_row, together}
-use Rattle.outcome.specs.Outcome.{status_number, first}
+use Rattle.rows.specs.Block.{Block, block, over, together}
+use Rattle.outcome.specs.Outcome.{Status, Accepted, status_number, first}
 use Rattle.outcome.specs.declared.Refusal.{Refusal}
-use Rattle.outcome.specs.declared.Status.{Status}
-use Rattle.outcome.specs.declared.Status.TheVariants.{Accepted, Refused}
 use Rattle.figures.specs.Figures.{i16_kind, u16_kind, i32_kind, u32_kind, all_within_limit, items, figures, spread}
 use Rattle.fields.specs.Due.{Due, due_at, due_status, end_status}
 use Rattle.casefile.specs.Case.{Case, case_with, head_is_fine, where_trial_given, rows_fine}
 use Rattle.casefile.specs.Layout.{head_tag, head_length, head_value, n_in, exponent_in, rounds_in, rows_at, row_tag, row_length, row_size, tolerances_in, right_side_in, right_tolerance_in, rows_end, row_bytes, trial_tag, trial_kind, trial_length, trial_size}
-use Rattle.casefile.specs.declared.Reading.{Reading}
+use Rattle.casefile.specs.declared.CaseFigures.{CaseFigures}
+use Rattle.casefile.specs.declared.CaseHead.{CaseHead}
 use Rattle.casefile.specs.declared.StoredCase.{StoredCase}
 
 -- ---- the head: n, e, K
@@ -115,8 +114,8 @@ pub data Decoded : Type 0 where
   refused : Refusal → Decoded
 
 abbrev pub decoded : Status → Case → Decoded
-decoded Accepted c = accepted c
-decoded (Refused r) c = refused r
+decoded (Ok _) c = accepted c
+decoded (Err r) c = refused r
 
 unfoldable pub decode : List ℕ → Decoded
 decode s = decoded (input_status s) (case_of s)
@@ -131,12 +130,12 @@ padded k z l = onto l (replicate k z)
 abbrev pub places : Block
 places = block (replicate most_coefficients (pos 0)) (replicate most_coefficients 0) (replicate most_tanks (pos 0)) (replicate most_tanks 0)
 
-abbrev pub held : ℕ → ℕ → ℕ → Block → List ℤ → StoredCase
-held n exponent rounds rows trial =
+abbrev pub head_with : ℕ → ℕ → ℕ → CaseHead
+head_with n exponent rounds = record { n = n; exponent = exponent; rounds = rounds }
+
+abbrev pub figures_with : Block → List ℤ → CaseFigures
+figures_with rows trial =
     record {
-      n = n;
-      exponent = exponent;
-      rounds = rounds;
       coefficients = rows.A;
       tolerances = rows.E;
       right_sides = rows.b;
@@ -144,18 +143,17 @@ held n exponent rounds rows trial =
       trial = trial;
     }
 
+abbrev pub held : ℕ → ℕ → ℕ → Block → List ℤ → StoredCase
+held n exponent rounds rows trial = record { head = head_with n exponent rounds; figures = figures_with rows trial }
+
 unfoldable pub stored : Case → StoredCase
 stored c = held c.n c.exponent c.rounds (over c.rows places) (padded most_tanks (pos 0) c.Y)
 
--- the case beside a refusal: all zeros
-abbrev pub no_case : Case
-no_case = case_with 0 0 0 no_row []
+unfoldable pub reading : Decoded → Result StoredCase Refusal
+reading (accepted c) = Ok (stored c)
+reading (refused r) = Err r
 
-unfoldable pub reading : Decoded → Reading
-reading (accepted c) = record { status = Accepted; case = stored c }
-reading (refused r) = record { status = Refused r; case = stored no_case }
-
--- what is promised of a reading: the status by the paper's number, and the case
-pub record CaseRead (d : Decoded) (r : Reading) : Type 0 where
-  pub number : status_number r.status ≡ status_number (reading d).status
-  pub case : r.case ≡ (reading d).case
+-- what is promised of a reading: the status by the paper's number, and where nothing is refused the case
+pub record CaseRead (d : Decoded) (r : Result StoredCase Refusal) : Type 0 where
+  pub number : status_number r ≡ status_number (reading d)
+  pub case : IfOk r (λ c. Ok c ≡ reading d)

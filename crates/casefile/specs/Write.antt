@@ -2,9 +2,9 @@
 -- The writing of a case: what refuses it, and what the call answers and leaves in the buffer.
 use Rattle.std.specs.Prelude.{ℕ, length, List}
 use Rattle.outcome.specs.CallResult.{CallResult, write_if_accepted, check_room}
-use Rattle.outcome.specs.declared.Status.{Status}
 use Rattle.casefile.specs.Case.{Case, case_status}
 use Rattle.casefile.specs.Layout.{encode, longest_case}
+use Rattle.outcome.specs.Outcome.{Status}
 
 -- "It refuses with 1 a buffer shorter than 388 bytes", and then as a case is refused
 unfoldable pub write_status : Case → ℕ → Status

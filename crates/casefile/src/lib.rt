@@ -1,4 +1,4 @@
-// A case in arrays, as the round trip returns it; whether n, e and K are within their limits, and whether a list of coefficients has the count due and is
+// A case in arrays and in lent lists; whether n, e and K are within their limits, and whether a list of coefficients has the count due and is
 // within them; and the tags, lengths and places of a case's fields in bytes, with how many figures the trial has.
 #![tactic(auto)]
 
@@ -7,9 +7,8 @@ ghost use Rattle.limits.specs.Limits.{most_tanks};
 ghost use Rattle.casefile.specs.Case.{tanks_are_fine, head_is_fine, square_counted, coefficients_are_fine};
 ghost use Rattle.casefile.specs.Layout.{RowPlaced, TailPlaced};
 
-use bigendian::{SIZE_16, SIZE_32};
+use bigendian::BigEndian;
 use limits::{MOST_COEFFICIENTS, MOST_TANKS};
-use outcome::Status;
 
 // Document 01, "Layout of case and record".
 pub const HEAD_TAG: u8 = 0x01;
@@ -31,13 +30,18 @@ pub const ROUNDS_AT: usize = EXPONENT_AT + 1;
 
 pub const ROWS_AT: usize = fields::HEADER_SIZE + HEAD_LENGTH;
 
-// A case in arrays with zeros behind its figures: n, the exponent e, the rounds K; coefficients and tolerances row after row, row i from i * n on;
-// the right sides, their tolerances and the trial.
-#[derive(Drop)]
-pub struct StoredCase {
+// The figures of a case's head: n, the exponent e and the rounds K.
+#[derive(Clone, Copy, Debug, PartialEq, Eq)]
+pub struct CaseHead {
     pub n: usize,
     pub exponent: usize,
     pub rounds: usize,
+}
+
+// The other figures of a case, in arrays with room for those of any case: coefficients and tolerances row after row, row i from i * n on; the right
+// sides, their tolerances and the trial.
+#[derive(Clone, Copy)]
+pub struct CaseFigures {
     pub coefficients: [i16; MOST_COEFFICIENTS],
     pub tolerances: [u16; MOST_COEFFICIENTS],
     pub right_sides: [i32; MOST_TANKS],
@@ -45,15 +49,35 @@ pub struct StoredCase {
     pub trial: [i32; MOST_TANKS],
 }
 
-// The case that a file holds, or the first refusal beside a case of zeros: only the round trip returns it.
-#[derive(Drop)]
-pub struct Reading {
-    pub status: Status,
-    pub case: StoredCase,
+// Zeros everywhere: what is there before a case is read, and beside a refusal.
+pub const NO_FIGURES: CaseFigures = CaseFigures {
+    coefficients: [0; MOST_COEFFICIENTS],
+    tolerances: [0; MOST_COEFFICIENTS],
+    right_sides: [0; MOST_TANKS],
+    right_tolerances: [0; MOST_TANKS],
+    trial: [0; MOST_TANKS],
+};
+
+// A case in arrays with zeros behind its figures: only the round trip returns it.
+#[derive(Clone, Copy)]
+pub struct StoredCase {
+    pub head: CaseHead,
+    pub figures: CaseFigures,
+}
+
+// A case as it is handed over to be written: its head, and five lists of any length.
+#[derive(Clone, Copy)]
+pub struct CaseLists<'a> {
+    pub head: CaseHead,
+    pub coefficients: &'a [i16],
+    pub tolerances: &'a [u16],
+    pub right_sides: &'a [i32],
+    pub right_tolerances: &'a [u32],
+    pub trial: &'a [i32],
 }
 
 // The places of a row's parts in its value, and the lengths of value and field, for n tanks.
-#[derive(Drop)]
+#[derive(Clone, Copy, Debug, PartialEq, Eq)]
 pub struct RowPlaces {
     pub tolerances: usize,
     pub right_side: usize,
@@ -64,7 +88,7 @@ pub struct RowPlaces {
 
 // What follows the rows of n tanks: where the trial's field begins, how many figures the trial has, how long its value is where there is one, and
 // where the end field begins.
-#[derive(Drop)]
+#[derive(Clone, Copy, Debug, PartialEq, Eq)]
 pub struct TailPlaces {
     pub trial: usize,
     pub trial_count: usize,
@@ -79,14 +103,8 @@ pub fn tanks_fine(n: usize) -> bool
     (1 <= n) & (n <= MOST_TANKS)
 }
 
-// Whether n, the exponent and the rounds are within their limits.
-pub fn head_fine(n: usize, exponent: usize, rounds: usize) -> bool
-    ensures { result ≡ head_is_fine n exponent rounds }
-{
-    tanks_fine(n) & ((exponent <= limits::MOST_EXPONENT) & (rounds <= limits::MOST_ROUNDS))
-}
-
-// Whether a list has a coefficient for each of n tanks in each of n rows.
+// Whether a list has a coefficient for each of n tanks in each of n rows. What is asked of n stays an inequality here: `tanks_fine` and `is_fine` answer
+// for every n, so no type can hold it.
 pub fn coefficients_counted(n: usize, coefficients: &[i16]) -> bool
     requires { n ≤ most_tanks }
     ensures { result ≡ square_counted n coefficients.now }
@@ -98,7 +116,7 @@ pub fn coefficients_counted(n: usize, coefficients: &[i16]) -> bool
 pub fn coefficients_fine(coefficients: &[i16]) -> bool
     ensures { result ≡ coefficients_are_fine coefficients.now }
 {
-    figures::all_i16(coefficients, limits::COEFFICIENT_LIMIT)
+    figures::all_within(coefficients, limits::COEFFICIENT_LIMIT)
 }
 
 // Where a row's tolerances, right side and its tolerance stand in the row's value, each behind the figures before it; how long the value is; and the
@@ -107,10 +125,10 @@ pub fn row_places(n: usize) -> RowPlaces
     requires { n ≤ most_tanks }
     ensures { RowPlaced n result }
 {
-    let tolerances = n * SIZE_16;
-    let right_side = tolerances + n * SIZE_16;
-    let right_tolerance = right_side + SIZE_32;
-    let len = right_tolerance + SIZE_32;
+    let tolerances = n * i16::SIZE;
+    let right_side = tolerances + n * u16::SIZE;
+    let right_tolerance = right_side + i32::SIZE;
+    let len = right_tolerance + u32::SIZE;
     RowPlaces {
         tolerances,
         right_side,
@@ -120,27 +138,38 @@ pub fn row_places(n: usize) -> RowPlaces
     }
 }
 
-// The trial has no figures, and its field no bytes, where K is above 0.
-pub fn tail_places(rounds: usize, n: usize) -> TailPlaces
-    requires { n ≤ most_tanks }
-    ensures { TailPlaced rounds n result }
-{
-    let row = row_places(n);
-    let trial = ROWS_AT + n * row.size;
-    let trial_len = n * SIZE_32;
-    if rounds == 0 {
-        TailPlaces {
-            trial,
-            trial_count: n,
-            trial_len,
-            end: trial + fields::HEADER_SIZE + trial_len,
-        }
-    } else {
-        TailPlaces {
-            trial,
-            trial_count: 0,
-            trial_len,
-            end: trial,
+impl CaseHead {
+    // Whether n, the exponent and the rounds are within their limits.
+    pub fn is_fine(self) -> bool
+        ensures { result ≡ head_is_fine self.n self.exponent self.rounds }
+    {
+        tanks_fine(self.n)
+            & ((self.exponent <= limits::MOST_EXPONENT) & (self.rounds <= limits::MOST_ROUNDS))
+    }
+
+    // The trial has no figures, and its field no bytes, where K is above 0.
+    pub fn tail_places(self) -> TailPlaces
+        requires { self.n ≤ most_tanks }
+        ensures { TailPlaced self.rounds self.n result }
+    {
+        let n = self.n;
+        let row = row_places(n);
+        let trial = ROWS_AT + n * row.size;
+        let trial_len = n * i32::SIZE;
+        if self.rounds == 0 {
+            TailPlaces {
+                trial,
+                trial_count: n,
+                trial_len,
+                end: trial + fields::HEADER_SIZE + trial_len,
+            }
+        } else {
+            TailPlaces {
+                trial,
+                trial_count: 0,
+                trial_len,
+                end: trial,
+            }
         }
     }
 }

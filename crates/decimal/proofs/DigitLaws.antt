@@ -1,6 +1,8 @@
 -- The laws of decimal digits: how a number's digits go on, how many there are, and that none leads with a zero. Assumes nothing.
-use Rattle.std.specs.Prelude.{ℕ, zero, suc, ◌+◌, ◌/◌, ◌%◌, ◌^◌, ◌≤◌, ◌<◌, ℤ, pos, negsuc, length, get_or, true, false, List, [], ◌∷◌, ◌++◌, ◌≡◌, refl}
-use Rattle.std.proofs.Common.{lt-ltb, le-ltb, ltb-true, lit<, length-append, sym, ap, ◌∙◌, mod-eq_of_lt, div-lt_iff_lt-mul, pow-suc, add-one, arith}
+use Rattle.std.specs.Prelude.{ℕ, zero, suc, ◌+◌, ◌*◌, ◌/◌, ◌%◌, ◌^◌, ◌≤◌, ◌<◌, ℤ, pos, negsuc, length, get_or, set, drop, max, true, false, List, [], ◌∷◌, ◌++◌, ◌≡◌, refl}
+use Rattle.std.proofs.Common.{lt-ltb, le-ltb, ltb-true, lit<, lit≤, length-append, length-set, append_assoc, sym, ap, ◌∙◌, mod-eq_of_lt, div-lt_iff_lt-mul, pow-suc, add-one, arith}
+use Rattle.std.proofs.lemmas.List.{drop-set}
+use Rattle.std.proofs.Math.Nat.{one-le-pow}
 use Rattle.std.proofs.Math.ListN.{get_or-append}
 use Rattle.std.specs.Int.Signed.{lt_z}
 use Rattle.std.proofs.Math.Decide.{dec_lt}
@@ -77,6 +79,23 @@ length_digits (suc k) n h = by (length_digits k (n / 10) ((div-lt_iff_lt-mul {k 
     by i (yes l) = rw (digits_one n l) (omega arith)
     by i (no l) = omega (arith, length_digits_more n (omega arith))
 
+-- a number from 10^k on has more than k digits
+digits_least : (k n : ℕ) → 10 ^ k ≤ n → suc k ≤ length (decimal_digits n)
+digits_least zero n h = digits_some n
+digits_least (suc k) n h =
+    let l : 10 ^ k * 10 ≤ n = rw (pow-suc 10 k) at h in
+    let some : 1 ≤ 10 ^ k = one-le-pow k 10 (lit≤ tt) in
+    omega (arith, length_digits_more n (omega arith), digits_least k (n / 10) (omega arith))
+
+-- so the logarithm tells how many there are; 0 has as many as 1
+pub digits_counted : (k n : ℕ) → 10 ^ k ≤ max n 1 → max n 1 < 10 * 10 ^ k → k + 1 ≡ length (decimal_digits n)
+digits_counted zero n h l = rw (digits_one n (omega arith))
+digits_counted (suc k) n h l =
+    let some : 1 ≤ 10 ^ k = one-le-pow k 10 (lit≤ tt) in
+    let above : 10 ^ k * 10 ≤ max n 1 = rw (pow-suc 10 k) at h in
+    let below : n < 10 ^ suc (suc k) = rw (pow-suc 10 (suc k)) (omega arith) in
+    omega (arith, length_digits (suc k) n below, digits_least (suc k) n (rw (pow-suc 10 k) (omega arith)))
+
 -- the digits of n are its last digits, as many as there are
 pub digits_last : (n : ℕ) → decimal_digits n ≡ last_digits (length (decimal_digits n)) n
 unfolding last_digits
@@ -117,3 +136,26 @@ minus_from_zero (negsuc n) h = let z : ◌≡◌ {A = ℕ} 0 1 = cc in absurd (o
 pub fraction_some : (e n : ℕ) → (e ≡ 0 → ⊥) → fraction e n ≡ 46 ∷ last_digits e n
 fraction_some zero n h = absurd (h refl)
 fraction_some (suc k) n h = refl
+
+-- ---- the loop that fills a part from its last byte back: the digits that are left and what is filled are the last digits of x
+
+pub record Filling (x count rest left : ℕ) (part : List ℕ) : Type 0 where
+  pub same : length part ≡ count
+  pub few : left ≤ count
+  pub is : last_digits left rest ++ drop left part ≡ last_digits count x
+
+module _ {x count rest : ℕ} {part : List ℕ} where
+  pub filling_turn : {left : ℕ} (k : ℕ) → left ≡ suc k → Filling x count rest left part → Filling x count (rest / 10) k (set part k (digit (rest % 10)))
+  unfolding last_digits
+  filling_turn k e f =
+      let d : ℕ = digit (rest % 10) in
+      let g = rw e at f in
+      record {
+        same = length-set part k d ∙ f.same;
+        few = omega (arith, f.few);
+        is = rw (drop-set part k d (omega (arith, f))) (sym (append_assoc (last_digits k (rest / 10)) (d ∷ []) (drop (k + 1) part)) ∙ rw (add-one k) g.is);
+      }
+
+  pub filling_ended : {left : ℕ} → left ≤ 0 → Filling x count rest left part → part ≡ last_digits count x
+  unfolding last_digits
+  filling_ended {left} h f = let e : left ≡ 0 = omega arith in (rw e at f).is

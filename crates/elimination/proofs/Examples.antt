@@ -3,11 +3,9 @@ use Rattle.std.specs.Prelude.{ℕ, ℤ, pos, ◌-ℤ◌, ◌*ℤ◌, List, [], �
 use Rattle.integers.specs.Tables.{fill}
 use Rattle.rounding.specs.Half.{is_rounded_up}
 use Rattle.rounding.specs.Round.{near, rnd}
-use Rattle.elimination.specs.Outcome.{outcome, refusal}
+use Rattle.elimination.specs.Outcome.{Elimination, complete, zero_pivot, outcome, refusal}
 use Rattle.elimination.specs.Steps.{start_order, working_row, working_matrix, pivot_from, pivot_row}
 use Rattle.elimination.specs.Steps.{eliminated_row, eliminated_below, next_run, after_steps, eliminated}
-use Rattle.elimination.specs.declared.Elimination.{Elimination}
-use Rattle.elimination.specs.declared.Elimination.TheVariants.{Complete, ZeroPivot}
 
 -- two rows each
 abbrev pub exchanged : List ℤ
@@ -28,9 +26,9 @@ example_result a = record { answer = outcome 2 (eliminated 2 a).steps; order = (
 
 -- rows (0, 1) and (1, 0) are exchanged; rows (1, 1) and (1, 1) are refused at the second step, and so are rows (32,767, 1) and (32,766, 1)
 pub answers : map example_result (exchanged ∷ equal ∷ near_equal ∷ [])
-    ≡ record { answer = Complete; order = 1 ∷ 0 ∷ 2 ∷ 3 ∷ 4 ∷ 5 ∷ 6 ∷ 7 ∷ [] }
-    ∷ record { answer = ZeroPivot 1; order = start_order }
-    ∷ record { answer = ZeroPivot 1; order = start_order }
+    ≡ record { answer = complete; order = 1 ∷ 0 ∷ 2 ∷ 3 ∷ 4 ∷ 5 ∷ 6 ∷ 7 ∷ [] }
+    ∷ record { answer = zero_pivot 1; order = start_order }
+    ∷ record { answer = zero_pivot 1; order = start_order }
     ∷ []
 unfolding outcome eliminated after_steps next_run pivot_row pivot_from eliminated_below eliminated_row working_matrix working_row fill rnd near is_rounded_up
 answers = refl

@@ -2,6 +2,8 @@
 use Rattle.std.specs.Prelude.{ℕ, ◌<◌, eqb, get_or, set, length, cond, List, ◌≡◌, refl}
 use Rattle.std.proofs.Common.{eq-eqb, ne_eqb, length-set, get_or-set_same, get_or-set_other, sym, ◌∙◌}
 use Rattle.std.proofs.lemmas.List.{set-get_or}
+use Rattle.std.proofs.lemmas.List.Edits.{swap_is}
+use Rattle.std.specs.List.{swap}
 use Rattle.std.proofs.Math.Decide.{ℕ_discrete}
 use Rattle.elimination.specs.Steps.{exchange}
 
@@ -53,3 +55,7 @@ exchange_at d l k p i h q =
 -- a place exchanged with itself
 pub exchange_same : {A : Type 0} (d : A) (l : List A) (k : ℕ) → exchange d l k k ≡ l
 exchange_same d l k = rw (set-get_or l k d) (set-get_or l k d)
+
+-- what the library's `swap` leaves is an exchange
+pub swapped : {A : Type 0} (d : A) (l l₁ : List A) (k p : ℕ) → l₁ ≡ swap l k p → k < length l → p < length l → l₁ ≡ exchange d l k p
+swapped d l l₁ k p e h q = e ∙ sym (swap_is l k p d h q)

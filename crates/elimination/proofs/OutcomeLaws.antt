@@ -1,5 +1,6 @@
 -- When an elimination is complete, and when it is refused: exactly if at some step every candidate for the pivot is zero. Assumes nothing.
 use Rattle.std.specs.Prelude.{ℕ, ◌<◌, ◌≤◌, ℤ, pos, nat_abs, Bool, List}
+use Rattle.std.specs.declared.result.Result.TheVariants.{Ok, Err}
 use borrow.Author.Tests.{ltb-true, ltb-false, lt-ltb, le-ltb}
 use Rattle.std.proofs.Math.Dec.{ltb}
 use Rattle.std.proofs.Math.Bool.{true, false, cond}
@@ -9,20 +10,18 @@ use Rattle.std.proofs.Math.Decide.{dec_lt}
 use Rattle.integers.specs.Size.{nat_abs_zero}
 use Rattle.elimination.specs.Claims.{ZeroColumn}
 use Rattle.elimination.specs.Matrix.{at}
-use Rattle.elimination.specs.Outcome.{outcome, refusal, refusal_step, Eliminates}
+use Rattle.elimination.specs.Outcome.{Elimination, complete, zero_pivot, outcome, refusal, refusal_step, Eliminates}
 use Rattle.elimination.proofs.Pivot.{pivot_best}
 use Rattle.elimination.proofs.Runs.{ended, stays, made}
 use Rattle.elimination.specs.Steps.{Run, next_pivot, largest, after_steps, eliminated}
-use Rattle.elimination.specs.declared.Elimination.{Elimination}
-use Rattle.elimination.specs.declared.Elimination.TheVariants.{Complete, ZeroPivot}
 
 -- ---- the refusal's number and step tell the answer
 
 same_elimination : (x y : Elimination) → refusal x ≡ refusal y → refusal_step x ≡ refusal_step y → x ≡ y
-same_elimination Complete Complete e f = refl
-same_elimination Complete (ZeroPivot k) e f = absurd (omega arith)
-same_elimination (ZeroPivot k) Complete e f = absurd (omega arith)
-same_elimination (ZeroPivot k) (ZeroPivot m) e f = let g : k ≡ m = omega arith in ap ZeroPivot g
+same_elimination (Ok u) (Ok v) e f = refl
+same_elimination (Ok u) (Err k) e f = absurd (omega arith)
+same_elimination (Err k) (Ok u) e f = absurd (omega arith)
+same_elimination (Err k) (Err m) e f = let g : k.steps ≡ m.steps = omega arith in ap zero_pivot g
 
 pub answer_is : {n : ℕ} {a : List ℤ} {answer : Elimination} {w : List (List ℤ)} {o : List ℕ}
     → Eliminates n a answer w o → answer ≡ outcome n (eliminated n a).steps
@@ -31,27 +30,27 @@ answer_is h = same_elimination _ _ h.refusal_is h.step_is
 -- ---- the answer tells the number of steps
 
 module _ (n s : ℕ) where
-  pub complete_steps : outcome n s ≡ Complete → n ≤ s
+  pub complete_steps : outcome n s ≡ complete → n ≤ s
   unfolding outcome
   complete_steps e = go (ltb s n) refl e
     where
-      go : (t : Bool) → ltb s n ≡ t → cond t (ZeroPivot s) Complete ≡ Complete → n ≤ s
+      go : (t : Bool) → ltb s n ≡ t → cond t (zero_pivot s) complete ≡ complete → n ≤ s
       go true f p = absurd (let z : ◌≡◌ {A = ℕ} 0 1 = cc in omega arith)
       go false f p = ltb-false s n f
 
-  pub steps_complete : n ≤ s → outcome n s ≡ Complete
+  pub steps_complete : n ≤ s → outcome n s ≡ complete
   unfolding outcome
   steps_complete h = rw (le-ltb s n h)
 
-  pub zero_pivot_steps : (k : ℕ) → outcome n s ≡ ZeroPivot k → (s < n) × (k ≡ s)
+  pub zero_pivot_steps : (k : ℕ) → outcome n s ≡ zero_pivot k → (s < n) × (k ≡ s)
   unfolding outcome
   zero_pivot_steps k e = go (ltb s n) refl e
     where
-      go : (t : Bool) → ltb s n ≡ t → cond t (ZeroPivot s) Complete ≡ ZeroPivot k → (s < n) × (k ≡ s)
-      go true f p = (ltb-true s n f, cc)
+      go : (t : Bool) → ltb s n ≡ t → cond t (zero_pivot s) complete ≡ zero_pivot k → (s < n) × (k ≡ s)
+      go true f p = (ltb-true s n f, omega (arith, ap refusal_step p))
       go false f p = absurd (let z : ◌≡◌ {A = ℕ} 0 1 = cc in omega arith)
 
-  pub steps_zero_pivot : s < n → outcome n s ≡ ZeroPivot s
+  pub steps_zero_pivot : s < n → outcome n s ≡ zero_pivot s
   unfolding outcome
   steps_zero_pivot h = rw (lt-ltb s n h)
 
@@ -69,7 +68,7 @@ largest_zero n r h e i p q =
 -- ---- refused exactly at the step whose candidates are all zero
 
 module _ (n : ℕ) (a : List ℤ) (k : ℕ) where
-  pub zero_pivot_column : outcome n (eliminated n a).steps ≡ ZeroPivot k → ZeroColumn n a k
+  pub zero_pivot_column : outcome n (eliminated n a).steps ≡ zero_pivot k → ZeroColumn n a k
   unfolding eliminated
   zero_pivot_column e =
       let s = zero_pivot_steps n (after_steps n a n).steps k e in
@@ -80,7 +79,7 @@ module _ (n : ℕ) (a : List ℤ) (k : ℕ) where
         zero = λ i p q. rw (m, s.1) (largest_zero n (after_steps n a n) s.0 (ended n a n s.0) i (omega arith) q);
       }
 
-  pub column_zero_pivot : ZeroColumn n a k → outcome n (eliminated n a).steps ≡ ZeroPivot k
+  pub column_zero_pivot : ZeroColumn n a k → outcome n (eliminated n a).steps ≡ zero_pivot k
   unfolding eliminated
   column_zero_pivot c =
       let e = c.reached in

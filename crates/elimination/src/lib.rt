@@ -20,7 +20,8 @@ pub const WORKING_SCALE: i64 = 256;
 // The scale of the multipliers, as a factor of a working number.
 const MULTIPLIER_SCALE: i64 = rounding::MULTIPLIER_SCALE as i64;
 
-// Row i of the working numbers at the start, over a row of zeros.
+// Row i of the working numbers at the start, over a row of zeros. Coefficients and n are all that the steps take of the equations, so no struct holds
+// the bound of n here.
 fn fill_row(
     n: usize,
     coefficients: &[i16; MOST_COEFFICIENTS],
@@ -30,10 +31,8 @@ fn fill_row(
     requires { (n ≤ most_tanks) × (i < n) × (row.old ≡ zero_row) }
     ensures { StartRow row.new (working_row n coefficients.now i) }
 {
-    let mut j: usize = 0;
-    while j < n {
-        row[j] = WORKING_SCALE * (coefficients[i * n + j] as i64);
-        j += 1;
+    for j in 0..n {
+        row[j] = WORKING_SCALE * i64::from(coefficients[i * n + j]);
     }
 }
 
@@ -46,33 +45,9 @@ fn fill_rows(
     requires { (n ≤ most_tanks) × (w.old ≡ zero_rows) }
     ensures { StartRows w.new (working_matrix n coefficients.now) }
 {
-    let mut i: usize = 0;
-    while i < n {
+    for i in 0..n {
         fill_row(n, coefficients, i, &mut w[i]);
-        i += 1;
     }
-}
-
-// Rows i and j exchanged, with the multipliers that stand in them.
-fn exchange_rows(w: &mut [[i64; MOST_TANKS]; MOST_TANKS], i: usize, j: usize)
-    requires { (i < most_tanks) × (j < most_tanks) }
-    ensures { w.new ≡ exchange [] w.old i j }
-{
-    let a = w[i];
-    let b = w[j];
-    w[i] = b;
-    w[j] = a;
-}
-
-// Places i and j of the order exchanged.
-fn exchange_places(order: &mut [usize; MOST_TANKS], i: usize, j: usize)
-    requires { (i < most_tanks) × (j < most_tanks) }
-    ensures { order.new ≡ exchange 0 order.old i j }
-{
-    let a = order[i];
-    let b = order[j];
-    order[i] = b;
-    order[j] = a;
 }
 
 // M = rnd(16,384 × entry / pivot), at most 16,384 since no entry below the pivot is larger.
@@ -89,10 +64,8 @@ fn eliminate_row(top: &[i64; MOST_TANKS], row: &mut [i64; MOST_TANKS], k: usize,
     ensures { row.new ≡ eliminated_row top.now row.old k n }
 {
     let m = multiplier_of(row[k], top[k]);
-    let mut j = k + 1;
-    while j < n {
-        row[j] = row[j] - rounded_by_scale(m * top[j]);
-        j += 1;
+    for j in k + 1..n {
+        row[j] -= rounded_by_scale(m * top[j]);
     }
     row[k] = m;
 }
@@ -107,51 +80,56 @@ fn step(
     requires { (pivot < most_tanks) × Pivoted (exchange [] w k pivot) k n }
     ensures { result ≡ eliminated_below (exchange [] w k pivot) k n }
 {
-    exchange_rows(&mut w, k, pivot);
+    w.swap(k, pivot);
     let top = w[k];
-    let mut i = k + 1;
-    while i < n {
+    for i in k + 1..n {
         eliminate_row(&top, &mut w[i], k, n);
-        i += 1;
     }
     w
 }
 
-// Whether every step found a pivot. `ZeroPivot(k)`: k steps were made, and at the next every candidate is zero (refusal 8).
-#[derive(Drop)]
-pub enum Elimination {
-    Complete,
-    ZeroPivot(usize),
+// The end before the last step: `steps` were made, and at the next every candidate for the pivot is zero (refusal 8).
+#[derive(Clone, Copy, Debug, PartialEq, Eq)]
+pub struct ZeroPivot {
+    pub steps: usize,
+}
+
+// What the steps leave: the working matrix, with each multiplier in the place that it eliminated, and the order, the index of the row
+// that stands at each place.
+#[derive(Clone, Copy, Debug, PartialEq, Eq)]
+pub struct Eliminated {
+    pub working: [[i64; MOST_TANKS]; MOST_TANKS],
+    pub order: [usize; MOST_TANKS],
 }
 
 // All steps of the elimination of n rows of coefficients, which stand row after row, or those before the first whose candidates are all
-// zero. `working` gets the working matrix, with each multiplier in the place that it eliminated, and `order` the index of the row that
-// stands at each place. Both are written whole, whatever they held, after an early end too. Asks that there are at most 8 rows.
+// zero. `eliminated` is written whole, whatever it held, after an early end too. Asks that there are at most 8 rows.
+// The scope paper names the form of its loops, of the steps and of the rows, both left by a label where no pivot is found.
 pub fn eliminate(
     n: usize,
     coefficients: &[i16; MOST_COEFFICIENTS],
-    working: &mut [[i64; MOST_TANKS]; MOST_TANKS],
-    order: &mut [usize; MOST_TANKS],
-) -> Elimination
+    eliminated: &mut Eliminated,
+) -> Result<(), ZeroPivot>
     requires { n ≤ most_tanks }
-    ensures { Eliminates n coefficients.now result working.new order.new }
+    ensures { Eliminates n coefficients.now result eliminated.new.working eliminated.new.order }
 {
-    *working = [[0i64; MOST_TANKS]; MOST_TANKS];
-    fill_rows(n, coefficients, working);
-    *order = [0, 1, 2, 3, 4, 5, 6, 7];
-    let mut k: usize = 0;
-    'steps: while k < n {
+    eliminated.working = [[0i64; MOST_TANKS]; MOST_TANKS];
+    fill_rows(n, coefficients, &mut eliminated.working);
+    eliminated.order = [0, 1, 2, 3, 4, 5, 6, 7];
+    let mut outcome = Ok(());
+    'steps: for k in 0..n {
         let mut pivot = k;
-        let mut largest = magnitude(working[k][k]);
+        let mut largest = magnitude(eliminated.working[k][k]);
         let mut i = k + 1;
         'rows: loop {
             if i == n {
                 if largest == 0 {
+                    outcome = Err(ZeroPivot { steps: k });
                     break 'steps;
                 }
                 break 'rows;
             }
-            let size = magnitude(working[i][k]);
+            let size = magnitude(eliminated.working[i][k]);
             if largest < size {
                 pivot = i;
                 largest = size;
@@ -160,14 +138,9 @@ pub fn eliminate(
         }
         // the last step has no row below it and its pivot is its own row, so it changes nothing
         if k + 1 < n {
-            *working = step(*working, k, pivot, n);
-            exchange_places(order, k, pivot);
+            eliminated.working = step(eliminated.working, k, pivot, n);
+            eliminated.order.swap(k, pivot);
         }
-        k += 1;
     }
-    if k < n {
-        Elimination::ZeroPivot(k)
-    } else {
-        Elimination::Complete
-    }
+    outcome
 }

@@ -1,11 +1,9 @@
 -- What the check of a field and the test of its value answer together. Assumes nothing.
-use Rattle.std.specs.Prelude.{Bool, true, ◌≡◌}
+use Rattle.std.specs.Prelude.{Bool, true, ◌≡◌, Err}
 use Rattle.std.proofs.Common.{sym, ap, ◌∙◌}
 use Rattle.outcome.proofs.Laws.{same_status, stops, first_goes_on, not_both, check_accepted}
-use Rattle.outcome.specs.Outcome.{status_number, check, first}
+use Rattle.outcome.specs.Outcome.{status_number, check, first, Accepted, Status}
 use Rattle.outcome.specs.declared.Refusal.{Refusal}
-use Rattle.outcome.specs.declared.Status.{Status}
-use Rattle.outcome.specs.declared.Status.TheVariants.{Accepted, Refused}
 use Rattle.fields.specs.Due.{FieldsRead}
 
 module _ {A : Type 0} {due : Status} {value : A} {x : Status} {out : A} where
@@ -22,7 +20,7 @@ module _ {A : Type 0} {due : Status} {value : A} {x : Status} {out : A} where
 
 module _ {A : Type 0} {value out : A} {x s : Status} (e : x ≡ s) where
   -- the field is refused
-  pub answer_stops : (t : Status) {q : Refusal} → x ≡ Refused q → FieldsRead (first s t) value x out
+  pub answer_stops : (t : Status) {q : Refusal} → x ≡ Err q → FieldsRead (first s t) value x out
   answer_stops t g = fields_read (stops t e g) (λ h. not_both _ _ g h)
 
   -- it is not, and the test of its value passed or failed

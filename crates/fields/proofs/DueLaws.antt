@@ -3,13 +3,12 @@
 use Rattle.std.specs.Prelude.{ℕ, ◌+◌, ◌^◌, ◌≤◌, ◌<◌, length, drop, true, List, [], ◌++◌, ◌≡◌, refl}
 use Rattle.std.proofs.Common.{eqb-true, drop_of_length-le, append-nil, sym, ap, ◌∙◌, le_of_eq}
 use Rattle.outcome.proofs.Laws.{check_accepted, first_left, first_right}
-use Rattle.outcome.specs.declared.Status.{Status}
-use Rattle.outcome.specs.declared.Status.TheVariants.{Accepted}
 use Rattle.bigendian.specs.Number.{be, be_bytes, Bytes}
 use Rattle.bigendian.specs.NumberLaws.{bytes_drop}
 use Rattle.fields.specs.Due.{Due, due_at, due_status, end_status}
 use Rattle.fields.specs.Field.{length_size, header_size, field, end_tag, end_length, end_size, end_field, value_of, after_field, field_status}
 use Rattle.fields.proofs.FieldLaws.{field_value, field_after, field_accepted, value_room, field_is, field_same}
+use Rattle.outcome.specs.Outcome.{Accepted, Status}
 
 -- bytes that were written are read back as x, whatever follows them
 pub record FieldBack {A : Type 0} (status : List ℕ → Status) (at : List ℕ → A) (size : ℕ) (s : List ℕ) (x : A) (rest : List ℕ) : Type 0 where

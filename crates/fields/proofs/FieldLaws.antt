@@ -12,9 +12,7 @@ use Rattle.buffer.specs.Buffer.{onto}
 use Rattle.buffer.specs.Laws.{part, put}
 use Rattle.buffer.specs.WroteLaws.{onto_two}
 use Rattle.outcome.proofs.Laws.{same_status, check_accepted, first_left, first_right}
-use Rattle.outcome.specs.Outcome.{status_number}
-use Rattle.outcome.specs.declared.Status.{Status}
-use Rattle.outcome.specs.declared.Status.TheVariants.{Accepted}
+use Rattle.outcome.specs.Outcome.{status_number, Accepted, Status}
 use Rattle.bigendian.specs.Number.{be_bytes, Bytes}
 use Rattle.bigendian.specs.NumberLaws.{be_bytes_lem, length_bytes, bytes_of, bytes_drop}
 use Rattle.fields.specs.Field.{length_at, length_size, header, header_size, field, tag_of, length_of, value_of, after_field, field_status}

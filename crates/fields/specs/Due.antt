@@ -1,9 +1,8 @@
 -- Definitions only.
 -- A field that is due at the front of the bytes that are left, with its figures' limits; the end field; and what is promised of fields that were read.
 use Rattle.std.specs.Prelude.{ℕ, eqb, length, Bool, List, ◌≡◌}
-use Rattle.outcome.specs.Outcome.{status_number, check, first}
+use Rattle.outcome.specs.Outcome.{status_number, check, first, Status}
 use Rattle.outcome.specs.declared.Refusal.TheVariants.{OutsideLimits, TrailingBytes}
-use Rattle.outcome.specs.declared.Status.{Status}
 use Rattle.fields.specs.Field.{end_tag, end_length, end_size, value_of, field_status}
 
 -- a field that is due: its tag and length, what its value is read as, whether that is within its limits, and its value's bytes

@@ -2,9 +2,8 @@
 -- A field of a file, and what refuses a field that is due at the front of the bytes that are left.
 use Rattle.std.specs.Prelude.{ℕ, ◌+◌, ◌-◌, leb, eqb, length, get_or, take, drop, Bool, List, [], ◌∷◌, ◌++◌}
 use Rattle.std.specs.Int.{w16}
-use Rattle.outcome.specs.Outcome.{check, first}
+use Rattle.outcome.specs.Outcome.{check, first, Status}
 use Rattle.outcome.specs.declared.Refusal.TheVariants.{FieldMissing, WrongTag, WrongLength, ValueCutShort}
-use Rattle.outcome.specs.declared.Status.{Status}
 use Rattle.bigendian.specs.Number.{be, be_bytes, size}
 
 -- document 01: "one byte tag, two bytes length, then the value"

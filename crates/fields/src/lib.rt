@@ -6,12 +6,13 @@ ghost use Rattle.buffer.specs.Buffer.{onto};
 ghost use Rattle.outcome.specs.Outcome.{status_number};
 ghost use Rattle.fields.specs.Field.{header, header_size, end_size, end_field, field_status};
 
-use outcome::{Refusal, Status};
+use bigendian::BigEndian;
+use outcome::Refusal;
 
 // The length stands behind the tag, which is one byte.
 const LENGTH_AT: usize = 1;
 
-pub const HEADER_SIZE: usize = LENGTH_AT + bigendian::SIZE_16;
+pub const HEADER_SIZE: usize = LENGTH_AT + u16::SIZE;
 
 // The end field: it has no value.
 pub const END_TAG: u8 = 0xFF;
@@ -20,22 +21,23 @@ pub const END_LENGTH: usize = 0;
 
 pub const END_SIZE: usize = HEADER_SIZE + END_LENGTH;
 
+// s and the place stand apart, since a place past the end of s has an answer too.
 // Whether the field that starts at a place of s has this tag, this length and its whole value: the first of refusals 2 to 5, or none.
-pub fn check_field(s: &[u8], at: usize, tag: u8, len: usize) -> Status
+pub fn check_field(s: &[u8], at: usize, tag: u8, len: usize) -> Result<(), Refusal>
     ensures { status_number result ≡ status_number (field_status tag len (drop at s.now)) }
 {
     if s.len() < at {
-        return Status::Refused(Refusal::FieldMissing);
+        return Err(Refusal::FieldMissing);
     }
     let left = s.len() - at;
     if left < HEADER_SIZE {
-        return Status::Refused(Refusal::FieldMissing);
+        return Err(Refusal::FieldMissing);
     }
     if s[at] != tag {
-        return Status::Refused(Refusal::WrongTag);
+        return Err(Refusal::WrongTag);
     }
-    if bigendian::read_u16(s, at + LENGTH_AT) as usize != len {
-        return Status::Refused(Refusal::WrongLength);
+    if u16::read(s, at + LENGTH_AT) as usize != len {
+        return Err(Refusal::WrongLength);
     }
     outcome::check(len <= left - HEADER_SIZE, Refusal::ValueCutShort)
 }
@@ -46,7 +48,7 @@ pub fn write_header(tag: u8, len: u16, out: &mut [u8])
     ensures { out.new ≡ onto (header tag len) out.old }
 {
     out[0] = tag;
-    bigendian::write_u16(len, &mut out[LENGTH_AT..]);
+    len.write(&mut out[LENGTH_AT..]);
 }
 
 // The end field, over the front of out.

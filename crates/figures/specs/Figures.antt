@@ -12,6 +12,10 @@ pub record Kind (X : Type 0) : Type 0 where
   pub figure : ℕ → X
   pub number : X → ℕ
 
+-- of the three that a type of figures states
+abbrev pub kind_of : {X : Type 0} → ℕ → (ℕ → X) → (X → ℕ) → Kind X
+kind_of width figure number = record { width = width; figure = figure; number = number }
+
 abbrev pub unsigned_kind : Width → Kind ℕ
 unsigned_kind w = record { width = size w; figure = λ x. x; number = λ x. x }
 

@@ -1,184 +1,111 @@
-// Runs of figures of one kind: read with a test of their limits, tested, and written.
-// One law over the kind of figure stands behind the loops of each of the three. No loop ends early: it has one way out, and what it leaves is known
-// for every input.
+// Runs of figures of one kind: read with a test of their limits, tested, and written, by one function each for all kinds.
 #![tactic(auto)]
 
-ghost use Rattle.std.specs.Prelude.{◌+◌, ◌*◌, ◌≤◌, length, drop, ◌≡◌};
-ghost use Rattle.buffer.specs.Buffer.{onto};
-ghost use Rattle.figures.specs.Figures.{i16_kind, u16_kind, i32_kind, u32_kind, up_to_limit, within_limit, all_up_to_limit, all_within_limit, spread, Read};
+ghost use Rattle.std.specs.Prelude.{ℕ, ◌+◌, ◌*◌, ◌≤◌, length, drop, Bool, List, ◌≡◌, refl};
+ghost use Rattle.std.proofs.Common.{lit≤};
+ghost use Rattle.buffer.specs.Buffer.{onto, all};
+ghost use Rattle.figures.specs.Figures.{kind_of, up_to_limit, within_limit, all_up_to_limit, all_within_limit, spread, Read};
 
-use bigendian::{SIZE_16, SIZE_32};
+use bigendian::BigEndian;
 
-// Reading: as many figures as out has places, from a place of s on, within the limit or not; the answer says whether all are within it.
+// A figure that has a limit: whether one is within it, and every one of a list.
+pub trait Figure: BigEndian {
+    ghost within: { ℕ → Self → Bool };
 
-pub fn read_i16s(s: &[u8], at: usize, limit: u64, out: &mut [i16]) -> bool
-    requires { at + i16_kind.width * length out.old ≤ length s.now }
-    ensures { Read i16_kind (within_limit limit) (drop at s.now) out.old result out.new }
+    ghost all_within: { ℕ → List Self → Bool };
+
+    fn is_within(self, limit: u64) -> bool
+        ensures { result ≡ within limit self };
+
+    ghost each: { (limit : ℕ) (l : List Self) → all_within limit l ≡ all (within limit) l };
+
+    // No figure that has a limit is wider.
+    ghost narrow: { Self.SIZE ≤ 4 };
+}
+
+impl Figure for i16 {
+    ghost within = { within_limit };
+
+    ghost all_within = { all_within_limit };
+
+    ghost each = { λ limit l. refl };
+
+    ghost narrow = { lit≤ tt };
+
+    fn is_within(self, limit: u64) -> bool {
+        i16::unsigned_abs(self) as u64 <= limit
+    }
+}
+
+impl Figure for u16 {
+    ghost within = { up_to_limit };
+
+    ghost all_within = { all_up_to_limit };
+
+    ghost each = { λ limit l. refl };
+
+    ghost narrow = { lit≤ tt };
+
+    fn is_within(self, limit: u64) -> bool {
+        self as u64 <= limit
+    }
+}
+
+impl Figure for i32 {
+    ghost within = { within_limit };
+
+    ghost all_within = { all_within_limit };
+
+    ghost each = { λ limit l. refl };
+
+    ghost narrow = { lit≤ tt };
+
+    fn is_within(self, limit: u64) -> bool {
+        i32::unsigned_abs(self) as u64 <= limit
+    }
+}
+
+impl Figure for u32 {
+    ghost within = { up_to_limit };
+
+    ghost all_within = { all_up_to_limit };
+
+    ghost each = { λ limit l. refl };
+
+    ghost narrow = { lit≤ tt };
+
+    fn is_within(self, limit: u64) -> bool {
+        self as u64 <= limit
+    }
+}
+
+// Reads as many figures as out has places, from a place of s on, within the limit or not; the answer says whether all are within it.
+pub fn read<T: Figure>(s: &[u8], at: usize, limit: u64, out: &mut [T]) -> bool
+    requires { at + T.SIZE * length out.old ≤ length s.now }
+    ensures { Read (kind_of T.SIZE T.figure T.number) (T.within limit) (drop at s.now) out.old result out.new }
 {
     let mut fine = true;
-    let mut i = 0;
-    let mut p = at;
-    while i < out.len() {
-        let x = bigendian::read_i16(s, p);
-        out[i] = x;
-        fine = fine & (integers::magnitude(x as i64) <= limit);
-        i += 1;
-        p += SIZE_16;
+    for (i, x) in out.iter_mut().enumerate() {
+        let figure = T::read(s, at + i * T::SIZE);
+        fine = fine & figure.is_within(limit);
+        *x = figure;
     }
     fine
 }
 
-pub fn read_u16s(s: &[u8], at: usize, limit: u64, out: &mut [u16]) -> bool
-    requires { at + u16_kind.width * length out.old ≤ length s.now }
-    ensures { Read u16_kind (up_to_limit limit) (drop at s.now) out.old result out.new }
+// Whether every figure of the list is within the limit.
+pub fn all_within<T: Figure>(a: &[T], limit: u64) -> bool
+    ensures { result ≡ T.all_within limit a.now }
 {
-    let mut fine = true;
-    let mut i = 0;
-    let mut p = at;
-    while i < out.len() {
-        let x = bigendian::read_u16(s, p);
-        out[i] = x;
-        fine = fine & (x as u64 <= limit);
-        i += 1;
-        p += SIZE_16;
-    }
-    fine
+    a.iter().all(|x| x.is_within(limit))
 }
 
-pub fn read_i32s(s: &[u8], at: usize, limit: u64, out: &mut [i32]) -> bool
-    requires { at + i32_kind.width * length out.old ≤ length s.now }
-    ensures { Read i32_kind (within_limit limit) (drop at s.now) out.old result out.new }
+// Writes the figures of the list over the front of out.
+pub fn write<T: Figure>(a: &[T], out: &mut [u8])
+    requires { T.SIZE * length a.now ≤ length out.old }
+    ensures { out.new ≡ onto (spread (kind_of T.SIZE T.figure T.number) a.now) out.old }
 {
-    let mut fine = true;
-    let mut i = 0;
-    let mut p = at;
-    while i < out.len() {
-        let x = bigendian::read_i32(s, p);
-        out[i] = x;
-        fine = fine & (integers::magnitude(x as i64) <= limit);
-        i += 1;
-        p += SIZE_32;
-    }
-    fine
-}
-
-pub fn read_u32s(s: &[u8], at: usize, limit: u64, out: &mut [u32]) -> bool
-    requires { at + u32_kind.width * length out.old ≤ length s.now }
-    ensures { Read u32_kind (up_to_limit limit) (drop at s.now) out.old result out.new }
-{
-    let mut fine = true;
-    let mut i = 0;
-    let mut p = at;
-    while i < out.len() {
-        let x = bigendian::read_u32(s, p);
-        out[i] = x;
-        fine = fine & (x as u64 <= limit);
-        i += 1;
-        p += SIZE_32;
-    }
-    fine
-}
-
-// Testing: whether every figure of the list is within the limit.
-
-pub fn all_i16(a: &[i16], limit: u64) -> bool
-    ensures { result ≡ all_within_limit limit a.now }
-{
-    let mut fine = true;
-    let mut i = 0;
-    while i < a.len() {
-        fine = fine & (integers::magnitude(a[i] as i64) <= limit);
-        i += 1;
-    }
-    fine
-}
-
-pub fn all_u16(a: &[u16], limit: u64) -> bool
-    ensures { result ≡ all_up_to_limit limit a.now }
-{
-    let mut fine = true;
-    let mut i = 0;
-    while i < a.len() {
-        fine = fine & (a[i] as u64 <= limit);
-        i += 1;
-    }
-    fine
-}
-
-pub fn all_i32(a: &[i32], limit: u64) -> bool
-    ensures { result ≡ all_within_limit limit a.now }
-{
-    let mut fine = true;
-    let mut i = 0;
-    while i < a.len() {
-        fine = fine & (integers::magnitude(a[i] as i64) <= limit);
-        i += 1;
-    }
-    fine
-}
-
-pub fn all_u32(a: &[u32], limit: u64) -> bool
-    ensures { result ≡ all_up_to_limit limit a.now }
-{
-    let mut fine = true;
-    let mut i = 0;
-    while i < a.len() {
-        fine = fine & (a[i] as u64 <= limit);
-        i += 1;
-    }
-    fine
-}
-
-// Writing: the figures of the list, over the front of out.
-
-pub fn write_i16s(a: &[i16], out: &mut [u8])
-    requires { i16_kind.width * length a.now ≤ length out.old }
-    ensures { out.new ≡ onto (spread i16_kind a.now) out.old }
-{
-    let mut i = 0;
-    let mut p = 0;
-    while i < a.len() {
-        bigendian::write_i16(a[i], &mut out[p..]);
-        i += 1;
-        p += SIZE_16;
-    }
-}
-
-pub fn write_u16s(a: &[u16], out: &mut [u8])
-    requires { u16_kind.width * length a.now ≤ length out.old }
-    ensures { out.new ≡ onto (spread u16_kind a.now) out.old }
-{
-    let mut i = 0;
-    let mut p = 0;
-    while i < a.len() {
-        bigendian::write_u16(a[i], &mut out[p..]);
-        i += 1;
-        p += SIZE_16;
-    }
-}
-
-pub fn write_i32s(a: &[i32], out: &mut [u8])
-    requires { i32_kind.width * length a.now ≤ length out.old }
-    ensures { out.new ≡ onto (spread i32_kind a.now) out.old }
-{
-    let mut i = 0;
-    let mut p = 0;
-    while i < a.len() {
-        bigendian::write_i32(a[i], &mut out[p..]);
-        i += 1;
-        p += SIZE_32;
-    }
-}
-
-pub fn write_u32s(a: &[u32], out: &mut [u8])
-    requires { u32_kind.width * length a.now ≤ length out.old }
-    ensures { out.new ≡ onto (spread u32_kind a.now) out.old }
-{
-    let mut i = 0;
-    let mut p = 0;
-    while i < a.len() {
-        bigendian::write_u32(a[i], &mut out[p..]);
-        i += 1;
-        p += SIZE_32;
+    for (i, x) in a.iter().enumerate() {
+        x.write(&mut out[i * T::SIZE..]);
     }
 }

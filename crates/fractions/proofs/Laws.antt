@@ -8,7 +8,7 @@ use Rattle.std.proofs.Math.Decide.{dec_lt, dec_le}
 use Rattle.std.proofs.Math.Nat.{le_of_mul-le-mul_left}
 use native.Mathlib.Omega.{arith}
 use Rattle.fractions.specs.Fraction.{◌over◌, Fraction, ordered_denominator, base, ◌≼◌, ◌≺◌, order_named, order_of_numbers, order}
-use Rattle.fractions.specs.declared.Order.TheVariants.{Less, Equal, Greater}
+use Rattle.std.specs.declared.cmp.Ordering.TheVariants.{Less, Equal, Greater}
 
 -- ---- the order of two naturals
 

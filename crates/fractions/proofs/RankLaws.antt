@@ -8,8 +8,8 @@ use Rattle.fractions.specs.Fraction.{◌over◌, Fraction, base, ◌≼◌, ◌�
 use Rattle.fractions.specs.Greatest.{is_greater_order, greater, first_greatest, FirstGreatest}
 use Rattle.fractions.proofs.Laws.{numerator_base, proper_base, order_equal, order_less, order_greater, greater_than, ≼_refl, ≼-total, ≼-≺-trans, ≺-≼-trans}
 use Rattle.fractions.specs.Least.{less, first_least, FirstLeast}
-use Rattle.fractions.specs.declared.Order.{Order}
-use Rattle.fractions.specs.declared.Order.TheVariants.{Less, Equal, Greater}
+use Rattle.std.specs.declared.cmp.Ordering.{Ordering}
+use Rattle.std.specs.declared.cmp.Ordering.TheVariants.{Less, Equal, Greater}
 
 -- ---- without a division: by the numerators and the denominators alone
 
@@ -42,7 +42,7 @@ module _ (f h : Fraction) where
   is_greater : greater f h ≡ true → h ≺ f
   is_greater e = go (order f h) refl e
     where
-      go : (o : Order) → order f h ≡ o → is_greater_order o ≡ true → h ≺ f
+      go : (o : Ordering) → order f h ≡ o → is_greater_order o ≡ true → h ≺ f
       go Less q t = let z : ◌≡◌ {A = ℕ} 0 1 = cc in absurd (omega arith)
       go Equal q t = let z : ◌≡◌ {A = ℕ} 0 1 = cc in absurd (omega arith)
       go Greater q t = greater_than f h q

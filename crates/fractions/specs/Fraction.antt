@@ -1,8 +1,8 @@
 -- Definitions only.
 -- Fractions of naturals and their order, by cross products of any size.
-use Prim.Native.Nat.{ℕ, zero, suc, ◌*◌, ◌≤◌, ◌<◌, compare, Ordering}
-use Rattle.fractions.specs.declared.Order.{Order}
-use Rattle.fractions.specs.declared.Order.TheVariants.{Less, Equal, Greater}
+use Prim.Native.Nat.{ℕ, zero, suc, ◌*◌, ◌≤◌, ◌<◌, compare, Ordering as Answer}
+use Rattle.std.specs.declared.cmp.Ordering.{Ordering}
+use Rattle.std.specs.declared.cmp.Ordering.TheVariants.{Less, Equal, Greater}
 
 infix 50 ◌over◌ ◌≼◌ ◌≺◌
 pub record Fraction : Type 0 where
@@ -30,14 +30,14 @@ abbrev pub ◌≺◌ : Fraction → Fraction → Type 0
 f ≺ g = f.num * base g < g.num * base f
 
 -- the order of two naturals
-abbrev pub order_named : Ordering → Order
-order_named Ordering.lt = Less
-order_named Ordering.eq = Equal
-order_named Ordering.gt = Greater
+abbrev pub order_named : Answer → Ordering
+order_named Answer.lt = Less
+order_named Answer.eq = Equal
+order_named Answer.gt = Greater
 
-unfoldable pub order_of_numbers : ℕ → ℕ → Order
+unfoldable pub order_of_numbers : ℕ → ℕ → Ordering
 order_of_numbers x y = order_named (compare x y)
 
 -- the order of two fractions
-unfoldable pub order : Fraction → Fraction → Order
+unfoldable pub order : Fraction → Fraction → Ordering
 order f g = order_of_numbers (f.num * base g) (g.num * base f)

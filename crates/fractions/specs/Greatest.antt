@@ -4,10 +4,10 @@
 use Rattle.std.specs.Prelude.{ℕ, Bool, true, false}
 use Rattle.fractions.specs.First.{first_best, First}
 use Rattle.fractions.specs.Fraction.{Fraction, ◌≼◌, ◌≺◌, order}
-use Rattle.fractions.specs.declared.Order.{Order}
-use Rattle.fractions.specs.declared.Order.TheVariants.{Less, Equal, Greater}
+use Rattle.std.specs.declared.cmp.Ordering.{Ordering}
+use Rattle.std.specs.declared.cmp.Ordering.TheVariants.{Less, Equal, Greater}
 
-abbrev pub is_greater_order : Order → Bool
+abbrev pub is_greater_order : Ordering → Bool
 is_greater_order Less = false
 is_greater_order Equal = false
 is_greater_order Greater = true

@@ -1,5 +1,5 @@
 -- The laws of the ring ℤ that are cited here and that `lib.IntN` lacks. Those of products are one call of `ring` each. Assumes nothing.
-use Rattle.std.specs.Prelude.{◌-◌, ℤ, pos, neg_ℤ, ◌+ℤ◌, ◌-ℤ◌, ◌*ℤ◌, [], ◌∷◌, ◌≡◌}
+use Rattle.std.specs.Prelude.{ℤ, pos, neg_ℤ, ◌-ℤ◌, ◌*ℤ◌, [], ◌∷◌, ◌≡◌}
 use Rattle.std.proofs.Math.IntN.{+ℤ_idl, +ℤ_idr}
 use Rattle.std.proofs.Common.{arith}
 use Rattle.integers.specs.Diff.{vars, ring, quote}

@@ -9,6 +9,10 @@ use mir.Val.{Fits, SFits, to_z, of_z, bits, hbits}
 use mir.ValLaws.{pow-bits}
 use Rattle.std.proofs.Math.Nat.{one-le-pow}
 
+-- what a number of 64 bits is read back as
+abbrev pub read : ℤ → ℤ
+read z = to_z w64 (of_z w64 z)
+
 -- a natural cast to a signed width that holds it
 pub to_z_fits : (w : Width) (m : ℕ) → SFits w (pos m) → to_z w m ≡ pos m
 to_z_fits w m f = to_z_pos w f.sfits

@@ -7,13 +7,10 @@ ghost use Rattle.std.specs.Prelude.{◌^◌, ◌<◌, ◌≤◌, pos, nat_abs, �
 pub fn magnitude(x: i64) -> u64
     ensures { result ≡ nat_abs x }
 {
-    if x < 0 {
-        ((0 - (x + 1)) as u64) + 1
-    } else {
-        x as u64
-    }
+    x.unsigned_abs()
 }
 
+// A table, which is read faster than a power is formed.
 const POWERS_OF_TEN: [u16; 4] = [1, 10, 100, 1000];
 
 // 10 to the power e.
@@ -28,5 +25,5 @@ pub fn power_of_ten(e: usize) -> u16
 pub fn scaled(scale: u16, figure: i32) -> i64
     ensures { (result ≡ pos scale *ℤ figure) × (nat_abs result ≤ 2 ^ 47) }
 {
-    (scale as i64) * (figure as i64)
+    i64::from(scale) * i64::from(figure)
 }

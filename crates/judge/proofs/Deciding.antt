@@ -8,7 +8,7 @@ use Rattle.fractions.proofs.FirstLaws.{first_below}
 use Rattle.fractions.specs.Fraction.{◌over◌, ordered_denominator, ◌≼◌, ◌≺◌, order}
 use Rattle.fractions.specs.Greatest.{greater}
 use Rattle.fractions.proofs.Laws.{numerator_base, over_zero_above, over_zero_alike}
-use Rattle.fractions.specs.declared.Order.TheVariants.{Equal}
+use Rattle.std.specs.declared.cmp.Ordering.TheVariants.{Equal}
 use Rattle.judge.specs.Judgement.{factor, no_factor, measurement, deciding_place, judgement, deciding_residual, deciding_reach, deciding_factor}
 use Rattle.judge.specs.System.{System, Trial}
 

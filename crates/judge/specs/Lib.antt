@@ -5,3 +5,4 @@ pub mod Judgement
 pub mod Magnitudes
 pub mod Finding
 pub mod Places
+pub mod Equations

@@ -1,5 +1,5 @@
 -- An entry's line, and the lines of so many entries, as the reader's code meets them. Assumes nothing.
-use Rattle.std.specs.Prelude.{ℕ, suc, ◌+◌, ◌-◌, ◌≤◌, ◌<◌, leb, ℤ, pos, neg_ℤ, length, set, Bool, ◌&&◌, cond, List, [], ◌∷◌, ◌++◌, ◌≡◌}
+use Rattle.std.specs.Prelude.{ℕ, suc, ◌+◌, ◌-◌, ◌≤◌, ◌<◌, leb, ℤ, pos, neg_ℤ, length, set, Bool, ◌&&◌, cond, List, [], ◌∷◌, ◌++◌, ◌≡◌, Option, None, Some}
 use borrow.Author.Tests.{eq-eqb, ne_eqb, eqb-true, eqb-false, leb-true}
 use Rattle.std.proofs.Math.Dec.{eqb}
 use Rattle.std.proofs.Math.ListN.{take, drop, length-drop, length-set}
@@ -19,7 +19,7 @@ use Rattle.decimal.proofs.DigitsReadLaws.{leading_digits, length_digits_in}
 use Rattle.decimal.specs.Reading.{value, negative, DigitsRead}
 use Rattle.decimal.specs.declared.Digits.{Digits}
 use Rattle.matrixfile.specs.Read.{most_entry_digits, after_minus, entry_digits, entry_fine, entry_of, after_entry, entries_fine, entries_of}
-use Rattle.matrix_reader.specs.Parts.{EntryRead, EntriesRead}
+use Rattle.matrix_reader.specs.Parts.{LeavesBehind, EntryRead, EntriesRead}
 use Rattle.matrix_reader.specs.declared.Entry.{Entry}
 
 -- ---- the sign
@@ -85,17 +85,17 @@ module _ (s : List ℕ) {k : ℕ} (sign : k ≡ cond (negative s) 1 0) where
             sign_room,
           )
 
-      pub entry_accepted : {x : ℤ} → x ≡ cond (negative s) (neg_ℤ (pos d.value)) (pos d.value) → EntryRead s (record { fine = true; value = x; len = k + d.count + 1 })
+      pub entry_accepted : {x : ℤ} → x ≡ cond (negative s) (neg_ℤ (pos d.value)) (pos d.value) → EntryRead s (Some (record { value = x; len = k + d.count + 1 }))
       unfolding entry_of after_entry
       entry_accepted e =
           record {
             fine = sym fine;
-            value = λ q. e ∙ rw number;
-            behind = λ q. record { inside = entry_room; is = rw (← (drop-drop 1 (k + d.count) s), ← (drop-drop d.count k s), after_sign_lem, counted, drop-drop 1 (length (entry_digits s)) (after_minus s)) };
+            value = e ∙ rw number;
+            behind = record { inside = entry_room; is = rw (← (drop-drop 1 (k + d.count) s), ← (drop-drop d.count k s), after_sign_lem, counted, drop-drop 1 (length (entry_digits s)) (after_minus s)) };
           }
 
-pub entry_refused : (s : List ℕ) → entry_fine s ≡ false → EntryRead s (record { fine = false; value = pos 0; len = 0 })
-entry_refused s e = record { fine = sym e; value = λ q. absurd (false≢true q); behind = λ q. absurd (false≢true q) }
+pub entry_refused : (s : List ℕ) → entry_fine s ≡ false → EntryRead s None
+entry_refused s e = record { fine = sym e; value = tt; behind = tt }
 
 -- ---- the loop over so many entries: k are read, and the rest of the text has the others
 
@@ -114,32 +114,36 @@ module _ {count : ℕ} {s : List ℕ} {columns₀ : List ℤ} where
     one_more : k < count → count - k ≡ suc (count - (k + 1))
     one_more h = omega arith
 
-    module _ {e : Entry} (read : EntryRead (drop p s) e) where
-      pub entries_refused : k < count → e.fine ≡ false → EntriesRead count s false columns
+    module _ {r₁ : Option Entry} (read : EntryRead (drop p s) r₁) where
+      pub entries_refused : k < count → r₁ ≡ None → EntriesRead count s false columns
       unfolding entries_fine
       entries_refused h q =
-          let bad : entry_fine (drop p s) ≡ false = sym read.fine ∙ q in
+          let bad : entry_fine (drop p s) ≡ false = sym (rw q at read.fine) in
           let whole : entries_fine (suc (count - (k + 1))) (drop p s) ≡ false = rw bad in
           record { fine = sym (sym r.fine ∙ rw (one_more h) whole); entries = λ x. absurd (false≢true x) }
 
-      pub entries_room : e.fine ≡ true → p + e.len ≤ length s
-      entries_room q = omega (arith, (read.behind q).inside, length-drop p s, r.inside)
+      module _ {e : Entry} (q : r₁ ≡ Some e) where
+        entry_behind : LeavesBehind (drop p s) e.len (after_entry (drop p s))
+        entry_behind = rw q at read.behind
 
-      pub entries_turn : {x : ℤ} → k < count → k < length columns → e.fine ≡ true → x ≡ e.value → ReadingEntries count s columns₀ (set columns k x) (p + e.len) (k + 1)
-      unfolding entries_fine entries_of
-      entries_turn {x} h room q v =
-          let good : entry_fine (drop p s) ≡ true = sym read.fine ∙ q in
-          let left : drop (p + e.len) s ≡ after_entry (drop p s) = sym (drop-drop e.len p s) ∙ (read.behind q).is in
-          let is : x ≡ entry_of (drop p s) = v ∙ read.value q in
-          let whole = rw (one_more h) at r.fine in
-          let all = rw (one_more h) at r.entries in
-          record {
-            inside = entries_room q;
-            few = omega arith;
-            same = length-set columns k x ∙ r.same;
-            fine = rw left (rw good at whole);
-            entries = rw (add-one k, take-suc-set columns k x room, left, is, ← (add-one k)) (append_snoc (take k columns) (entry_of (drop p s)) (entries_of (count - (k + 1)) (after_entry (drop p s))) ∙ all);
-          }
+        pub entries_room : p + e.len ≤ length s
+        entries_room = omega (arith, entry_behind.inside, length-drop p s, r.inside)
+
+        pub entries_turn : {x : ℤ} → k < count → k < length columns → x ≡ e.value → ReadingEntries count s columns₀ (set columns k x) (p + e.len) (k + 1)
+        unfolding entries_fine entries_of
+        entries_turn {x} h room v =
+            let good : entry_fine (drop p s) ≡ true = sym (rw q at read.fine) in
+            let left : drop (p + e.len) s ≡ after_entry (drop p s) = sym (drop-drop e.len p s) ∙ entry_behind.is in
+            let is : x ≡ entry_of (drop p s) = v ∙ (rw q at read.value) in
+            let whole = rw (one_more h) at r.fine in
+            let all = rw (one_more h) at r.entries in
+            record {
+              inside = entries_room;
+              few = omega arith;
+              same = length-set columns k x ∙ r.same;
+              fine = rw left (rw good at whole);
+              entries = rw (add-one k, take-suc-set columns k x room, left, is, ← (add-one k)) (append_snoc (take k columns) (entry_of (drop p s)) (entries_of (count - (k + 1)) (after_entry (drop p s))) ∙ all);
+            }
 
     pub entries_ended : {b : Bool} → count ≤ k → b ≡ eqb p (length s) → EntriesRead count s b columns
     unfolding entries_fine entries_of

@@ -1,12 +1,14 @@
 -- The parts of a text, as the reader's loops meet them. Assumes nothing.
-use Rattle.std.specs.Prelude.{ℕ, ◌+◌, ◌≤◌, ◌<◌, eqb, leb, length, get_or, Bool, true, false, ◌&&◌, ◌||◌, not, ◌≡◌, refl}
+use Rattle.std.specs.Prelude.{ℕ, ◌+◌, ◌≤◌, ◌<◌, eqb, leb, length, get_or, Bool, true, false, ◌&&◌, ◌||◌, not, ◌≡◌, refl, Option, None, Some, is_some, suc}
+use borrow.Author.Tests.{eq-eqb, ne_eqb, eqb-true, eqb-false}
 use Rattle.std.proofs.Math.ListN.{drop, drop_of_length-le}
 use Rattle.std.proofs.Common.{length-append, length-drop, drop-cons, drop-drop, ap, ◌∙◌, arith}
-use Rattle.std.proofs.lemmas.Bool.{false≢true}
 use mathlib.Core.List.{List, [], ◌∷◌}
 use Rattle.std.proofs.Math.Path.{sym}
 use Rattle.std.proofs.Math.Numerals.{add-one}
-use Rattle.buffer.specs.Buffer.{begins_by}
+use Rattle.std.specs.List.{prefix_len, starts_with}
+use Rattle.buffer.specs.Buffer.{leading, begins_by}
+use Rattle.buffer.specs.Laws.{part, part_is}
 use Rattle.buffer.specs.LeadingLaws.{begins_front}
 use Rattle.decimal.specs.Decimal.{line_feed}
 use Rattle.casefile.specs.Case.{tanks_are_fine}
@@ -15,6 +17,30 @@ use Rattle.matrixfile.proofs.SizeLaws.{size_tests, size_some}
 use Rattle.matrixfile.specs.Text.{first_line}
 use Rattle.matrix_reader.specs.Parts.{LeavesBehind, CommentsRead, SizeRead, HeaderRead}
 use Rattle.matrix_reader.specs.declared.Size.{Size}
+
+-- ---- what the library's methods find at a text's front
+
+pub prefix_leading : {X : Type 0} (p : X → Bool) (l : List X) → prefix_len p l ≡ leading p l
+unfolding leading
+prefix_leading p [] = refl
+prefix_leading p (x ∷ l) = let one : 1 + leading p l ≡ suc (leading p l) = omega arith in rw (prefix_leading p l, one)
+
+same_tests : (a b : ℕ) → eqb a b ≡ eqb b a
+same_tests a b = by (eqb a b) refl
+  where
+    by : (t : Bool) → eqb a b ≡ t → t ≡ eqb b a
+    by true e = sym (eq-eqb b a (sym (eqb-true a b e)))
+    by false e = sym (ne_eqb b a (λ q. eqb-false a b e (sym q)))
+
+pub starts_begins : (w s : List ℕ) → starts_with eqb s w ≡ begins_by w s
+unfolding begins_by
+starts_begins [] s = refl
+starts_begins (c ∷ w) [] = refl
+starts_begins (c ∷ w) (d ∷ s) = rw (same_tests c d, starts_begins w s)
+
+-- of the part from a place on
+pub part_begins : (s : List ℕ) (at : ℕ) (w : List ℕ) {b : Bool} → b ≡ starts_with eqb (part s at) w → b ≡ begins_by w (drop at s)
+part_begins s at w e = e ∙ starts_begins w (part s at) ∙ ap (begins_by w) (part_is s at)
 
 -- ---- comment lines: k bytes are passed, and what is left behind the rest of them is what is left behind all
 
@@ -46,12 +72,12 @@ module _ {s : List ℕ} {inside : Bool} {k : ℕ} (r : PassingComments s inside 
 
 -- ---- a size line
 
--- what stands there instead of one
-abbrev pub no_size : Size
-no_size = record { fine = false; n = 0; len = 0 }
+-- what is read where there is none
+abbrev pub no_size : Option Size
+no_size = None
 
 pub size_refused : (s : List ℕ) → size_fine s ≡ false → SizeRead s no_size
-size_refused s e = record { fine = sym e; tanks = λ q. absurd (false≢true q); behind = λ q. absurd (false≢true q) }
+size_refused s e = record { fine = sym e; tanks = tt; behind = tt }
 
 pub size_missing : (s : List ℕ) → length s ≡ 0 → SizeRead s no_size
 size_missing s e = size_refused s (by (size_fine s) refl)
@@ -76,19 +102,19 @@ module _ (s : List ℕ) (e : size_fine s ≡ true) where
         length-drop (1 + spaces_in s) s,
       )
 
-  pub size_accepted : {n k : ℕ} → n ≡ size_of s → k ≡ spaces_in s → SizeRead s (record { fine = true; n = n; len = 3 + k })
+  pub size_accepted : {n k : ℕ} → n ≡ size_of s → k ≡ spaces_in s → SizeRead s (Some (record { n = n; len = 3 + k }))
   size_accepted {n} {k} g h =
       record {
         fine = sym e;
-        tanks = λ q. g;
-        behind = λ q. record { inside = rw h size_room; is = rw h };
+        tanks = g;
+        behind = record { inside = rw h size_room; is = rw h };
       }
 
 -- ---- the lines up to it
 
 module _ (text : List ℕ) where
   pub header_refused : begins_by first_line text ≡ false → HeaderRead text no_size
-  header_refused e = record { fine = rw e; tanks = λ q. absurd (false≢true q); behind = λ q. absurd (false≢true q) }
+  header_refused e = record { fine = rw e; tanks = tt; behind = tt }
 
   module _ (e : begins_by first_line text ≡ true) where
     pub first_line_room : length first_line ≤ length text
@@ -103,24 +129,28 @@ module _ (text : List ℕ) where
             is = sym (drop-drop k (length first_line) text) ∙ w.is;
           }
 
-      module _ {r : Size} (z : SizeRead (drop (length first_line + k) text) r) where
-        same_fine : r.fine ≡ (begins_by first_line text && size_fine (at_size_line text))
+      module _ {r : Option Size} (z : SizeRead (drop (length first_line + k) text) r) where
+        same_fine : is_some r ≡ (begins_by first_line text && size_fine (at_size_line text))
         same_fine = z.fine ∙ rw (size_place.is, e)
 
-        pub header_size_refused : r.fine ≡ false → HeaderRead text r
-        header_size_refused q = record { fine = same_fine; tanks = λ p. absurd (false≢true (sym q ∙ p)); behind = λ p. absurd (false≢true (sym q ∙ p)) }
+        pub header_size_refused : r ≡ None → HeaderRead text no_size
+        header_size_refused q = record { fine = rw q at same_fine; tanks = tt; behind = tt }
 
-        pub header_room : r.fine ≡ true → length first_line + k + r.len ≤ length text
-        header_room q = omega (arith, (z.behind q).inside, length-drop (length first_line + k) text, size_place.inside)
+        module _ {size : Size} (q : r ≡ Some size) where
+          size_behind : LeavesBehind (drop (length first_line + k) text) size.len (behind_size (drop (length first_line + k) text))
+          size_behind = rw q at z.behind
 
-        pub header_accepted : r.fine ≡ true → HeaderRead text (record { fine = true; n = r.n; len = length first_line + k + r.len })
-        header_accepted q =
-            record {
-              fine = sym q ∙ same_fine;
-              tanks = λ p. z.tanks q ∙ ap size_of size_place.is;
-              behind = λ p.
-                  record {
-                    inside = header_room q;
-                    is = sym (drop-drop r.len (length first_line + k) text) ∙ (z.behind q).is ∙ ap behind_size size_place.is;
-                  };
-            }
+          pub header_room : length first_line + k + size.len ≤ length text
+          header_room = omega (arith, size_behind.inside, length-drop (length first_line + k) text, size_place.inside)
+
+          pub header_accepted : HeaderRead text (Some (record { n = size.n; len = length first_line + k + size.len }))
+          header_accepted =
+              record {
+                fine = rw q at same_fine;
+                tanks = (rw q at z.tanks) ∙ ap size_of size_place.is;
+                behind =
+                    record {
+                      inside = header_room;
+                      is = sym (drop-drop size.len (length first_line + k) text) ∙ size_behind.is ∙ ap behind_size size_place.is;
+                    };
+              }

@@ -3,7 +3,7 @@
 
 ghost use Rattle.std.specs.Prelude.{◌-◌, ◌≤◌, pos, neg_ℤ, length, cond, ◌≡◌};
 ghost use Rattle.limits.specs.Limits.{coefficient_limit};
-ghost use Rattle.buffer.specs.Buffer.{onto, leading, begins_by};
+ghost use Rattle.buffer.specs.Buffer.{onto, leading};
 ghost use Rattle.outcome.specs.CallResult.{call_result};
 ghost use Rattle.decimal.specs.Reading.{negative};
 ghost use Rattle.matrixfile.specs.Read.{is_space, matrix_reading};
@@ -11,38 +11,20 @@ ghost use Rattle.matrixfile.specs.Text.{transpose};
 ghost use Rattle.matrix_reader.specs.Parts.{CommentsRead, SizeRead, HeaderRead, EntryRead, EntriesRead, Square};
 
 use limits::MOST_COEFFICIENTS;
-use outcome::{Outcome, Refusal};
+use outcome::Refusal;
 
-// A size line, or all lines up to it: whether they are as they should be, and then n and how many bytes they have.
-#[derive(Drop)]
+// A size line, or all lines up to it: n, and how many bytes they have.
+#[derive(Clone, Copy, Debug, PartialEq, Eq)]
 struct Size {
-    fine: bool,
     n: usize,
     len: usize,
 }
 
-// An entry's line: whether it is as it should be, and then the entry and how many bytes the line has.
-#[derive(Drop)]
+// An entry's line: the entry, and how many bytes the line has.
+#[derive(Clone, Copy, Debug, PartialEq, Eq)]
 struct Entry {
-    fine: bool,
     value: i16,
     len: usize,
-}
-
-// Whether a word stands at the front of the text.
-fn begins_with(text: &[u8], word: &[u8]) -> bool
-    ensures { result ≡ begins_by word.now text.now }
-{
-    if text.len() < word.len() {
-        return false;
-    }
-    let mut same = true;
-    let mut i = 0;
-    while i < word.len() {
-        same = same & (text[i] == word[i]);
-        i += 1;
-    }
-    same
 }
 
 // How many bytes the comment lines at the front have. A comment line goes on to its line feed, or to the end of the text.
@@ -50,105 +32,57 @@ fn comment_bytes(text: &[u8]) -> usize
     ensures { CommentsRead text.now result }
 {
     let mut inside = false;
-    let mut k = 0;
-    while k < text.len() && (inside | (text[k] == b'%')) {
-        inside = text[k] != b'\n';
-        k += 1;
+    for (k, byte) in text.iter().enumerate() {
+        if !(inside | (*byte == b'%')) {
+            return k;
+        }
+        inside = *byte != b'\n';
     }
-    k
+    text.len()
 }
 
 // How many spaces stand at the front.
 fn count_spaces(text: &[u8]) -> usize
     ensures { result ≡ leading is_space text.now }
 {
-    let mut k = 0;
-    while k < text.len() && text[k] == b' ' {
-        k += 1;
-    }
-    k
-}
-
-// The number of a digit, and 0 of a byte below the digits.
-fn digit_value(byte: u8) -> usize
-    ensures { result ≡ byte - 48 }
-{
-    if byte < b'0' {
-        return 0;
-    }
-    (byte - b'0') as usize
+    text.iter().take_while(|byte| **byte == b' ').count()
 }
 
 // A size line at the front.
-fn read_size(text: &[u8]) -> Size
+fn read_size(text: &[u8]) -> Option<Size>
     ensures { SizeRead text.now result }
 {
-    let none = Size {
-        fine: false,
-        n: 0,
-        len: 0,
-    };
-    if text.len() == 0 {
-        return none;
-    }
-    let first = text[0];
-    let n = digit_value(first);
+    let first = *text.first()?;
+    let n = first.saturating_sub(b'0') as usize;
     let spaces = count_spaces(&text[1..]);
-    let behind = 1 + spaces;
-    let end = [first, b'\n'];
-    let ended = begins_with(&text[behind..], &end);
+    let ended = text[1 + spaces..].starts_with(&[first, b'\n']);
     if !(casefile::tanks_fine(n) & ((1 <= spaces) & ended)) {
-        return none;
+        return None;
     }
-    Size {
-        fine: true,
-        n,
-        len: 3 + spaces,
-    }
+    Some(Size { n, len: 3 + spaces })
 }
 
 // The first line, the comment lines and the size line.
-fn read_header(text: &[u8]) -> Size
+fn read_header(text: &[u8]) -> Option<Size>
     ensures { HeaderRead text.now result }
 {
-    if !begins_with(text, &matrixfile::FIRST_LINE) {
-        return Size {
-            fine: false,
-            n: 0,
-            len: 0,
-        };
+    if !text.starts_with(&matrixfile::FIRST_LINE) {
+        return None;
     }
     let first = matrixfile::FIRST_LINE_LENGTH;
     let at = first + comment_bytes(&text[first..]);
-    let size = read_size(&text[at..]);
-    if !size.fine {
-        return size;
-    }
-    Size {
-        fine: true,
+    let size = read_size(&text[at..])?;
+    Some(Size {
         n: size.n,
         len: at + size.len,
-    }
+    })
 }
 
 // Whether the text begins with a minus.
 fn is_negative(text: &[u8]) -> bool
     ensures { result ≡ negative text.now }
 {
-    if text.len() == 0 {
-        return false;
-    }
-    text[0] == b'-'
-}
-
-// How many bytes a sign has.
-fn sign_length(negative: bool) -> usize
-    ensures { result ≡ cond negative 1 0 }
-{
-    if negative {
-        return 1;
-    }
-    0
+    text.first() == Some(&b'-')
 }
 
 // The coefficient of this magnitude, below zero where `negative` says so.
@@ -156,35 +90,28 @@ fn with_sign(negative: bool, magnitude: u64) -> i16
     requires { magnitude ≤ coefficient_limit }
     ensures { result ≡ cond negative (neg_ℤ (pos magnitude)) (pos magnitude) }
 {
-    if negative {
-        return 0 - (magnitude as i16);
-    }
-    magnitude as i16
+    let positive = magnitude as i16;
+    if negative { -positive } else { positive }
 }
 
 // An entry's line at the front.
-fn read_entry(text: &[u8]) -> Entry
+fn read_entry(text: &[u8]) -> Option<Entry>
     ensures { EntryRead text.now result }
 {
     let minus = is_negative(text);
-    let sign = sign_length(minus);
+    let sign = usize::from(minus);
     let digits = decimal::read_digits(&text[sign..], matrixfile::MOST_ENTRY_DIGITS);
     let count = digits.count;
     let magnitude = digits.value;
     let end = sign + count;
-    let ended = begins_with(&text[end..], b"\n");
+    let ended = text[end..].starts_with(b"\n");
     if !((1 <= count) & ((magnitude <= limits::COEFFICIENT_LIMIT) & ended)) {
-        return Entry {
-            fine: false,
-            value: 0,
-            len: 0,
-        };
+        return None;
     }
-    Entry {
-        fine: true,
+    Some(Entry {
         value: with_sign(minus, magnitude),
         len: end + 1,
-    }
+    })
 }
 
 // Whether the text is so many entries, one a line, and nothing behind them. They go over the front of columns, in the order of the text; where it is not,
@@ -194,16 +121,12 @@ fn read_entries(text: &[u8], count: usize, columns: &mut [i16]) -> bool
     ensures { EntriesRead count text.now result columns.new }
 {
     let mut p = 0;
-    let mut k = 0;
-    while k < count {
-        let entry = read_entry(&text[p..]);
-        if !entry.fine {
+    for k in 0..count {
+        let Some(entry) = read_entry(&text[p..]) else {
             return false;
-        }
-        let value = entry.value;
-        columns[k] = value;
+        };
+        columns[k] = entry.value;
         p += entry.len;
-        k += 1;
     }
     p == text.len()
 }
@@ -213,33 +136,27 @@ fn write_rows(n: usize, columns: &[i16; MOST_COEFFICIENTS], out: &mut [i16])
     requires { Square n (length out.old) }
     ensures { out.new ≡ onto (transpose n columns.now) out.old }
 {
-    let count = n * n;
-    let mut k = 0;
-    while k < count {
+    for k in 0..n * n {
         out[k] = columns[k % n * n + k / n];
-        k += 1;
     }
 }
 
 // Reads a text into the front of coefficients, row after row, and returns n; the places past n * n stay. It refuses, and changes no place, with 1 a list of
 // fewer than 64 places, then with 11 a first line or a size line that is not as it should be, then with 12 an entry that is malformed, outside its limits or
 // missing, or anything behind the last.
-pub fn read_matrix(text: &[u8], coefficients: &mut [i16]) -> Outcome
+pub fn read_matrix(text: &[u8], coefficients: &mut [i16]) -> Result<usize, Refusal>
     ensures { call_result result coefficients.new ≡ matrix_reading text.now coefficients.old }
 {
     if coefficients.len() < MOST_COEFFICIENTS {
-        return Outcome::Refused(Refusal::BufferTooShort);
+        return Err(Refusal::BufferTooShort);
     }
-    let header = read_header(text);
-    if !header.fine {
-        return Outcome::Refused(Refusal::WrongMatrixHeader);
-    }
+    let header = read_header(text).ok_or(Refusal::WrongMatrixHeader)?;
     let n = header.n;
     let at = header.len;
     let mut columns = [0i16; MOST_COEFFICIENTS];
     if !read_entries(&text[at..], n * n, &mut columns) {
-        return Outcome::Refused(Refusal::WrongMatrixEntry);
+        return Err(Refusal::WrongMatrixEntry);
     }
     write_rows(n, &columns, coefficients);
-    Outcome::Count(n)
+    Ok(n)
 }

@@ -1,6 +1,6 @@
 -- The calls as their users see them: what was written is read as what was meant, which texts are read alike, what a reading leaves, and that the case writer
 -- takes it. Assumes nothing.
-use Rattle.std.specs.Prelude.{ℕ, ◌*◌, ◌≤◌, leb, ℤ, pos, replicate, List, ◌≡◌, refl}
+use Rattle.std.specs.Prelude.{ℕ, ◌*◌, ◌≤◌, leb, ℤ, pos, replicate, List, ◌≡◌, refl, Ok}
 use Rattle.std.proofs.Common.{eq-eqb, drop_at, sym, ◌∙◌}
 use Rattle.std.proofs.Math.ListN.{length, take, drop}
 use Rattle.std.proofs.lemmas.List.{length-replicate}
@@ -12,10 +12,8 @@ use Rattle.buffer.specs.Laws.{take_onto}
 use Rattle.outcome.specs.CallResult.{call_result, check_room}
 use Rattle.outcome.proofs.CallResultLaws.{lent_count, lent_whole}
 use Rattle.outcome.proofs.Laws.{first_right}
-use Rattle.outcome.specs.Outcome.{check, reported_outcome}
-use Rattle.outcome.specs.declared.Outcome.TheVariants.{Count}
+use Rattle.outcome.specs.Outcome.{check, reported_outcome, Accepted}
 use Rattle.outcome.specs.declared.Refusal.TheVariants.{BufferTooShort}
-use Rattle.outcome.specs.declared.Status.TheVariants.{Accepted}
 use Rattle.figures.specs.Figures.{within_limit}
 use Rattle.casefile.specs.Case.{case_of_lists, counted, rows_fine, figures_fine, case_status}
 use Rattle.casefile.specs.Layout.{longest_case}
@@ -28,12 +26,12 @@ use Rattle.matrixfile.proofs.VariationLaws.{varied_read, read_fine, read_varied,
 
 -- ---- what was written is read as what was meant, whatever the list held
 
-read_as : {n : ℕ} {A : List ℤ} {text : List ℕ} (list : List ℤ) → ReadAs n A text → most_coefficients ≤ length list → matrix_reading text list ≡ call_result (Count n) (onto A list)
+read_as : {n : ℕ} {A : List ℤ} {text : List ℕ} (list : List ℤ) → ReadAs n A text → most_coefficients ≤ length list → matrix_reading text list ≡ call_result (Ok n) (onto A list)
 unfolding matrix_reading
 read_as list r h = sym (rw (r.tanks, r.coefficients) (lent_whole most_coefficients _ _ _ list h r.accepted refl))
 
-module _ (n : ℕ) (A : List ℤ) (out : List ℕ) (m : ℕ) (e : (matrix_writing n A out).outcome ≡ reported_outcome (Count m)) (list : List ℤ) where
-  pub read_written : most_coefficients ≤ length list → matrix_reading (take m (matrix_writing n A out).buffer) list ≡ call_result (Count n) (onto A list)
+module _ (n : ℕ) (A : List ℤ) (out : List ℕ) (m : ℕ) (e : (matrix_writing n A out).outcome ≡ reported_outcome (Ok m)) (list : List ℤ) where
+  pub read_written : most_coefficients ≤ length list → matrix_reading (take m (matrix_writing n A out).buffer) list ≡ call_result (Ok n) (onto A list)
   unfolding matrix_writing
   read_written h = rw (matrix_written n A out m e).front (read_as list (text_read (written_fine n A out m e)) h)
 
@@ -68,7 +66,7 @@ pub record MatrixRead (n : ℕ) (text : List ℕ) (list left : List ℤ) : Type 
   pub varied : Varied n (take (n * n) left) text
   pub kept : drop (n * n) left ≡ drop (n * n) list
 
-module _ (text : List ℕ) (list : List ℤ) (n : ℕ) (e : (matrix_reading text list).outcome ≡ reported_outcome (Count n)) where
+module _ (text : List ℕ) (list : List ℤ) (n : ℕ) (e : (matrix_reading text list).outcome ≡ reported_outcome (Ok n)) where
   pub matrix_read : MatrixRead n text list (matrix_reading text list).buffer
   unfolding matrix_reading
   matrix_read =

@@ -1,5 +1,5 @@
 -- An entry's line: one of the form that reading allows is read as what it says, and one that is read has that form. Assumes nothing.
-use Prim.Native.Nat.{ℕ, zero, suc, ◌+◌, ◌-◌, ◌≤◌}
+use Prim.Native.Nat.{ℕ, zero, suc, ◌+◌, ◌≤◌}
 use borrow.Author.Tests.{leb-true, le-leb, eqb-true, ne_eqb}
 use Rattle.std.specs.Prelude.{leb, eqb, ℤ, pos, negsuc, neg_ℤ, nat_abs, length, take, replicate, Bool, true, false, ◌&&◌, ◌||◌, cond, ◌≡◌}
 use Rattle.std.proofs.Math.ListN.{drop}

@@ -1,12 +1,10 @@
 -- Matrices written and texts read, by computation on the definitions. Nothing is exported. Assumes nothing.
-use Rattle.std.specs.Prelude.{ℕ, ◌≤◌, ℤ, pos, neg_ℤ, length, replicate, List, [], ◌∷◌, ◌++◌, ◌≡◌, refl}
+use Rattle.std.specs.Prelude.{ℕ, ◌≤◌, ℤ, pos, neg_ℤ, length, replicate, List, [], ◌∷◌, ◌++◌, ◌≡◌, refl, Ok}
 use Prim.Native.String as string
 use Rattle.std.proofs.Common.{le-leb}
 use Rattle.limits.specs.Limits.{most_tanks, most_coefficients, coefficient_limit}
 use Rattle.buffer.specs.Buffer.{all, leading, begins_by}
-use Rattle.outcome.specs.Outcome.{status_number, reported_outcome}
-use Rattle.outcome.specs.declared.Outcome.TheVariants.{Count}
-use Rattle.outcome.specs.declared.Status.TheVariants.{Accepted}
+use Rattle.outcome.specs.Outcome.{status_number, reported_outcome, Accepted}
 use Rattle.decimal.specs.Decimal.{ascii, digits_within, decimal_digits, signed_decimal}
 use Rattle.matrixfile.specs.Read.{after_comments, size_fine, entry_fine, entry_of, after_entry, entries_fine, entries_of, text_status, coefficients_in}
 use Rattle.matrixfile.specs.Text.{first_line, entry_line, transpose, matrix_text, longest_text, matrix_status, matrix_writing}
@@ -29,7 +27,7 @@ longest_accepted : matrix_status most_tanks longest ≡ Accepted
 unfolding all matrix_status
 longest_accepted = refl
 
-attained : (out : List ℕ) → longest_text ≤ length out → (matrix_writing most_tanks longest out).outcome ≡ reported_outcome (Count longest_text)
+attained : (out : List ℕ) → longest_text ≤ length out → (matrix_writing most_tanks longest out).outcome ≡ reported_outcome (Ok longest_text)
 unfolding matrix_writing
 attained out h = rw (le-leb longest_text (length out) h, longest_accepted, longest_length)
 

@@ -1,5 +1,5 @@
 -- Which texts are read: the writer's, and those that are changed in the ways of `Variation` alone. Assumes nothing.
-use Rattle.std.specs.Prelude.{ℕ, zero, suc, ◌*◌, ◌-◌, ◌≤◌, ◌<◌, ℤ, pos, nat_abs, length, drop, true, false, ◌&&◌, ◌≡◌, refl}
+use Rattle.std.specs.Prelude.{ℕ, zero, suc, ◌*◌, ◌-◌, ◌≤◌, ℤ, pos, nat_abs, length, drop, true, false, ◌&&◌, ◌≡◌, refl}
 use borrow.Author.Tests.{le-leb, eqb-true, ne_eqb}
 use Rattle.std.proofs.Common.{lit<, drop_of_length-le, drop_at, ◌∙◌, lt_of_le_of_lt, arith}
 use Rattle.std.proofs.lemmas.List.{length-map}
@@ -10,7 +10,6 @@ use Rattle.buffer.specs.AllLaws.{and_true, all_from}
 use Rattle.buffer.specs.Buffer.{joined, all, begins_by}
 use Rattle.buffer.specs.LeadingLaws.{begins_append, begins_front}
 use Rattle.outcome.proofs.Laws.{check_accepted, first_left, first_right}
-use Rattle.outcome.specs.declared.Status.TheVariants.{Accepted}
 use Rattle.integers.specs.Tables.{Within}
 use Rattle.figures.specs.Figures.{within_limit}
 use Rattle.decimal.specs.Decimal.{line_feed, digit, decimal_digits, minus_sign, signed_decimal}
@@ -23,6 +22,7 @@ use Rattle.matrixfile.proofs.SizeLaws.{size_tests, size_some, size_read, size_li
 use Rattle.matrixfile.specs.Text.{first_line, entry_line, transpose, matrix_text}
 use Rattle.matrixfile.specs.TextLaws.{length_transpose, transpose_twice, transpose_within, MatrixFine, entry_within}
 use Rattle.matrixfile.specs.Variation.{comment_line, spaced_size_line, VariedEntry, unvaried, varied_line, varied_fits, varied_text, Varied, ReadAs}
+use Rattle.outcome.specs.Outcome.{Accepted}
 
 -- ---- the lines of all entries
 

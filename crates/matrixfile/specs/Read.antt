@@ -4,9 +4,8 @@ use Rattle.std.specs.Prelude.{ℕ, zero, suc, ◌+◌, ◌*◌, ◌-◌, leb, eq
 use Rattle.limits.specs.Limits.{most_coefficients, coefficient_limit}
 use Rattle.buffer.specs.Buffer.{leading, begins_by}
 use Rattle.outcome.specs.CallResult.{LentResult, leave_if_accepted, check_room}
-use Rattle.outcome.specs.Outcome.{check, first}
+use Rattle.outcome.specs.Outcome.{check, first, Status}
 use Rattle.outcome.specs.declared.Refusal.TheVariants.{WrongMatrixHeader, WrongMatrixEntry}
-use Rattle.outcome.specs.declared.Status.{Status}
 use Rattle.decimal.specs.Decimal.{line_feed, digit}
 use Rattle.decimal.specs.Reading.{value, negative, digits_in}
 use Rattle.casefile.specs.Case.{tanks_are_fine}

@@ -3,9 +3,8 @@
 use Rattle.std.specs.Prelude.{ℕ, ◌+◌, ◌*◌, ◌/◌, ◌%◌, ℤ, pos, length, get_or, List, ◌∷◌, ◌++◌}
 use Rattle.buffer.specs.Buffer.{joined}
 use Rattle.outcome.specs.CallResult.{CallResult, write_if_accepted, check_room}
-use Rattle.outcome.specs.Outcome.{check, first}
+use Rattle.outcome.specs.Outcome.{check, first, Status}
 use Rattle.outcome.specs.declared.Refusal.TheVariants.{WrongLength, OutsideLimits}
-use Rattle.outcome.specs.declared.Status.{Status}
 use Rattle.integers.specs.Tables.{table}
 use Rattle.decimal.specs.Decimal.{ascii, line_feed, digit, signed_decimal}
 use Rattle.casefile.specs.Case.{tanks_are_fine, square_counted, coefficients_are_fine}

@@ -1,5 +1,5 @@
 -- The text of a matrix: which place of the list each entry comes from, what a matrix that is not refused has, and how long its text is at most. Assumes nothing.
-use Rattle.std.specs.Prelude.{ℕ, ◌+◌, ◌*◌, ◌/◌, ◌%◌, ◌≤◌, ◌<◌, ℤ, pos, nat_abs, length, take, List, ◌++◌, ◌≡◌, refl}
+use Rattle.std.specs.Prelude.{ℕ, ◌+◌, ◌*◌, ◌/◌, ◌%◌, ◌≤◌, ◌<◌, ℤ, pos, nat_abs, length, take, List, ◌++◌, ◌≡◌, refl, Ok}
 use borrow.Author.Tests.{leb-true, le-leb, eqb-true, eq-eqb}
 use Rattle.std.proofs.Common.{lit<, ext_get_or, get_or-take, take_all, sym, ◌∙◌, mod-lt, mod-eq_of_lt, div-add-mod', div-lt_iff_lt-mul, add-zero, pos_of_ne-zero, lt_of_le_of_lt}
 use Rattle.std.proofs.Math.ListN.{get_or, length-append}
@@ -14,9 +14,7 @@ use Rattle.integers.specs.TableLaws.{length_table, get_d_table, all_table, row_i
 use Rattle.outcome.specs.CallResult.{check_room}
 use Rattle.outcome.proofs.CallResultLaws.{WrittenCount, written_count}
 use Rattle.outcome.proofs.Laws.{check_accepted, first_left, first_right}
-use Rattle.outcome.specs.Outcome.{reported_outcome}
-use Rattle.outcome.specs.declared.Outcome.TheVariants.{Count}
-use Rattle.outcome.specs.declared.Status.TheVariants.{Accepted}
+use Rattle.outcome.specs.Outcome.{reported_outcome, Accepted}
 use Rattle.figures.specs.Figures.{within_limit}
 use Rattle.decimal.specs.Decimal.{line_feed, signed_decimal}
 use Rattle.decimal.proofs.ReadingLaws.{length_signed}
@@ -133,7 +131,7 @@ module _ (n : ℕ) (A : List ℤ) (f : MatrixFine n A) where
 
 -- ---- what a count tells
 
-module _ (n : ℕ) (A : List ℤ) (out : List ℕ) (m : ℕ) (e : (matrix_writing n A out).outcome ≡ reported_outcome (Count m)) where
+module _ (n : ℕ) (A : List ℤ) (out : List ℕ) (m : ℕ) (e : (matrix_writing n A out).outcome ≡ reported_outcome (Ok m)) where
   pub matrix_written : WrittenCount (check_room longest_text (length out) (matrix_status n A)) (matrix_text n A) out m
   unfolding matrix_writing
   matrix_written = written_count (check_room longest_text (length out) (matrix_status n A)) (matrix_text n A) out m e

@@ -3,10 +3,10 @@
 -- size line, leading zeros put before an entry's digits, up to five digits, and a minus before a zero.
 use Rattle.std.specs.Prelude.{ℕ, leb, eqb, ℤ, nat_abs, length, replicate, Bool, true, false, ◌&&◌, cond, List, ◌∷◌, ◌++◌, map, ◌≡◌}
 use Rattle.buffer.specs.Buffer.{joined, all}
-use Rattle.outcome.specs.declared.Status.TheVariants.{Accepted}
 use Rattle.decimal.specs.Decimal.{ascii, line_feed, digit, decimal_digits, minus_sign}
 use Rattle.matrixfile.specs.Read.{no_line_feed, most_entry_digits, tanks_in, text_status, coefficients_in}
 use Rattle.matrixfile.specs.Text.{first_line, transpose}
+use Rattle.outcome.specs.Outcome.{Accepted}
 
 -- a comment line, of bytes that are no line feed
 abbrev pub comment_line : List ℕ → List ℕ

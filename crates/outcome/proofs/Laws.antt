@@ -1,12 +1,9 @@
 -- Laws of refusals and their numbers, of answers that cannot be both, and of checks in sequence. Assumes nothing.
-use Rattle.std.specs.Prelude.{ℕ, Bool, true, false, ◌≡◌, refl}
+use Rattle.std.specs.Prelude.{Result, Ok, Err, IfOk, ℕ, Bool, true, false, ◌≡◌, refl}
 use Rattle.std.proofs.Common.{true≢false, sym, ap, ◌∙◌, arith}
-use Rattle.outcome.specs.Outcome.{number_of, refusal_of, status_number, reported_outcome, check, first}
-use Rattle.outcome.specs.declared.Outcome.TheVariants.{Count, Refused as RefusedBy}
+use Rattle.outcome.specs.Outcome.{Status, Accepted, number_of, refusal_of, status_number, reported_outcome, check, first}
 use Rattle.outcome.specs.declared.Refusal.{Refusal}
 use Rattle.outcome.specs.declared.Refusal.TheVariants.{BufferTooShort, FieldMissing, WrongTag, WrongLength, ValueCutShort, OutsideLimits, TrailingBytes, ZeroPivot, OutsideRange, OutsideTable, WrongMatrixHeader, WrongMatrixEntry}
-use Rattle.outcome.specs.declared.Status.{Status}
-use Rattle.outcome.specs.declared.Status.TheVariants.{Accepted, Refused}
 
 -- each refusal has a number of its own
 pub refusal_of_number : (r : Refusal) → refusal_of (number_of r) ≡ r
@@ -28,14 +25,14 @@ same_number q r e = sym (refusal_of_number q) ∙ ap refusal_of e ∙ refusal_of
 
 -- ---- an answer is one of its kinds
 
-pub not_both : {P : Type 0} (s : Status) (r : Refusal) → s ≡ Refused r → s ≡ Accepted → P
+pub not_both : {P : Type 0} (s : Status) (r : Refusal) → s ≡ Err r → s ≡ Accepted → P
 not_both s r e g = let z : ◌≡◌ {A = ℕ} 0 1 = cc in absurd (omega arith)
 
-pub no_count : {P : Type 0} (r : Refusal) (m : ℕ) → reported_outcome (RefusedBy r) ≡ reported_outcome (Count m) → P
+pub no_count : {P : Type 0} (r : Refusal) (m : ℕ) → reported_outcome (Err r) ≡ reported_outcome (Ok m) → P
 no_count r m e = absurd (true≢false (ap (λ s. s.refused) e))
 
 -- what is reported tells the refusal
-pub same_refusal : (q r : Refusal) → reported_outcome (RefusedBy q) ≡ reported_outcome (RefusedBy r) → q ≡ r
+pub same_refusal : (q r : Refusal) → reported_outcome (Err q) ≡ reported_outcome (Err r) → q ≡ r
 same_refusal q r e = same_number q r (ap (λ s. s.number) e)
 
 -- a status is told by its number: no refusal has 0
@@ -46,10 +43,16 @@ number_above r e =
     omega arith
 
 pub same_status : (a b : Status) → status_number a ≡ status_number b → a ≡ b
-same_status Accepted Accepted e = refl
-same_status Accepted (Refused r) e = absurd (number_above r e)
-same_status (Refused q) Accepted e = absurd (number_above q (sym e))
-same_status (Refused q) (Refused r) e = ap Refused (same_number q r e)
+same_status (Ok _) (Ok _) e = refl
+same_status (Ok _) (Err r) e = absurd (number_above r e)
+same_status (Err q) (Ok _) e = absurd (number_above q (sym e))
+same_status (Err q) (Err r) e = ap Err (same_number q r e)
+
+-- an answer is told by its number, and where nothing is refused by what is answered
+pub same_answer : {A : Type 0} (a b : Result A Refusal) → status_number a ≡ status_number b → IfOk a (λ x. Ok x ≡ b) → a ≡ b
+same_answer (Ok x) b e m = m
+same_answer (Err q) (Ok y) e m = absurd (number_above q (sym e))
+same_answer (Err q) (Err r) e m = ap Err (same_number q r e)
 
 -- ---- checks
 
@@ -58,22 +61,22 @@ pub check_accepted : (b : Bool) (r : Refusal) → check b r ≡ Accepted → b �
 check_accepted true r e = refl
 check_accepted false r e = cc
 
-pub check_refused : (b : Bool) (r : Refusal) → check b r ≡ Refused r → b ≡ false
+pub check_refused : (b : Bool) (r : Refusal) → check b r ≡ Err r → b ≡ false
 check_refused true r e = cc
 check_refused false r e = refl
 
 pub first_left : (s t : Status) → first s t ≡ Accepted → s ≡ Accepted
-first_left Accepted t e = refl
-first_left (Refused r) t e = e
+first_left (Ok _) t e = refl
+first_left (Err r) t e = e
 
 pub first_right : (s t : Status) → first s t ≡ Accepted → t ≡ Accepted
-first_right Accepted t e = e
-first_right (Refused r) t e = cc
+first_right (Ok _) t e = e
+first_right (Err r) t e = cc
 
 -- what a check that passed makes of the first of two
 pub first_goes_on : (s t : Status) → s ≡ Accepted → t ≡ first s t
 first_goes_on s t e = rw e
 
 -- where x is what the first of the two gave: it refused
-pub stops : {x s : Status} {r : Refusal} (t : Status) → x ≡ s → x ≡ Refused r → x ≡ first s t
+pub stops : {x s : Status} {r : Refusal} (t : Status) → x ≡ s → x ≡ Err r → x ≡ first s t
 stops t e g = rw (← e, g)

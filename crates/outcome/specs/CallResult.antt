@@ -1,13 +1,9 @@
 -- Definitions only.
 -- What a call that writes into a lent list, its buffer, answers, and what the list then holds.
-use Rattle.std.specs.Prelude.{ℕ, leb, length, List}
+use Rattle.std.specs.Prelude.{ℕ, leb, length, List, Ok, Err}
 use Rattle.buffer.specs.Buffer.{onto}
-use Rattle.outcome.specs.Outcome.{ReportedOutcome, reported_outcome, check, first}
-use Rattle.outcome.specs.declared.Outcome.{Outcome}
-use Rattle.outcome.specs.declared.Outcome.TheVariants.{Count, Refused as RefusedBy}
+use Rattle.outcome.specs.Outcome.{Outcome, Status, ReportedOutcome, reported_outcome, check, first}
 use Rattle.outcome.specs.declared.Refusal.TheVariants.{BufferTooShort}
-use Rattle.outcome.specs.declared.Status.{Status}
-use Rattle.outcome.specs.declared.Status.TheVariants.{Accepted, Refused}
 
 -- the answer as the paper has it, and what the list holds
 pub record LentResult (X : Type 0) : Type 0 where
@@ -25,8 +21,8 @@ call_result outcome buffer = record { outcome = reported_outcome outcome; buffer
 -- elements laid over a list's front, with the count that the call returns by its rule, and the places beyond them as they were; "Any refusal .. returns its
 -- number and changes no byte"
 abbrev pub leave_if_accepted : {X : Type 0} → Status → (List X → ℕ) → List X → List X → LentResult X
-leave_if_accepted Accepted count elements out = call_result (Count (count elements)) (onto elements out)
-leave_if_accepted (Refused r) count elements out = call_result (RefusedBy r) out
+leave_if_accepted (Ok _) count elements out = call_result (Ok (count elements)) (onto elements out)
+leave_if_accepted (Err r) count elements out = call_result (Err r) out
 
 -- bytes written at a buffer's front: the number is their length
 abbrev pub write_if_accepted : Status → List ℕ → List ℕ → CallResult

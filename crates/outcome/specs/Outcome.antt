@@ -1,12 +1,19 @@
 -- Definitions only.
 -- The papers' number of each refusal, of each outcome and of each status, and the first of two checks that refuses.
-use Rattle.std.specs.Prelude.{ℕ, ◌-◌, get_or, Bool, true, false, List, [], ◌∷◌}
-use Rattle.outcome.specs.declared.Outcome.{Outcome}
-use Rattle.outcome.specs.declared.Outcome.TheVariants.{Count, Refused as RefusedBy}
+use Rattle.std.specs.Prelude.{ℕ, ◌-◌, get_or, Bool, true, false, List, [], ◌∷◌, Result, Ok, Err, ⊤}
 use Rattle.outcome.specs.declared.Refusal.{Refusal}
 use Rattle.outcome.specs.declared.Refusal.TheVariants.{BufferTooShort, FieldMissing, WrongTag, WrongLength, ValueCutShort, OutsideLimits, TrailingBytes, ZeroPivot, OutsideRange, OutsideTable, WrongMatrixHeader, WrongMatrixEntry}
-use Rattle.outcome.specs.declared.Status.{Status}
-use Rattle.outcome.specs.declared.Status.TheVariants.{Accepted, Refused}
+
+-- the answer of a call: a count, or why it refuses
+abbrev pub Outcome : Type 0
+Outcome = Result ℕ Refusal
+
+-- the answer of a check: nothing, or why it refuses
+abbrev pub Status : Type 0
+Status = Result ⊤ Refusal
+
+abbrev pub Accepted : Status
+Accepted = Ok tt
 
 -- document 01, "Refused, in this order"
 abbrev pub number_of : Refusal → ℕ
@@ -48,12 +55,12 @@ refusal_of k = get_or refusals (k - 1) WrongMatrixEntry
 
 -- "Every outcome says whether its number is a count or a refusal": whether it refuses, and its number
 abbrev pub refuses : Outcome → Bool
-refuses (Count m) = false
-refuses (RefusedBy r) = true
+refuses (Ok m) = false
+refuses (Err r) = true
 
 abbrev pub outcome_number : Outcome → ℕ
-outcome_number (Count m) = m
-outcome_number (RefusedBy r) = number_of r
+outcome_number (Ok m) = m
+outcome_number (Err r) = number_of r
 
 -- an outcome as the paper has it, in which every promise of a call is made
 pub record ReportedOutcome : Type 0 where
@@ -63,17 +70,17 @@ pub record ReportedOutcome : Type 0 where
 abbrev pub reported_outcome : Outcome → ReportedOutcome
 reported_outcome o = record { refused = refuses o; number = outcome_number o }
 
--- a status as the paper has it, in which every promise of a check is made: 0 where nothing is refused
-abbrev pub status_number : Status → ℕ
-status_number Accepted = 0
-status_number (Refused r) = number_of r
+-- a status as the paper has it, in which every promise of a check is made: 0 where nothing is refused, whatever is answered then
+abbrev pub status_number : {A : Type 0} → Result A Refusal → ℕ
+status_number (Ok _) = 0
+status_number (Err r) = number_of r
 
 -- a test, and the refusal where it fails
 abbrev pub check : Bool → Refusal → Status
 check true r = Accepted
-check false r = Refused r
+check false r = Err r
 
 -- the first refusal of two checks
 abbrev pub first : Status → Status → Status
-first Accepted t = t
-first (Refused r) t = Refused r
+first (Ok _) t = t
+first (Err r) t = Err r

@@ -9,9 +9,9 @@ ghost use Rattle.fields.specs.Field.{header_size};
 ghost use Rattle.recordfile.specs.Layout.{answer_length, rows_length, factor_length, answer_place, ConditionPlaced, flag as flag_of, pair_at, pair_size, verdict_field, answer_field, rows_field, factor_field};
 ghost use Rattle.recordfile.specs.Layout.{condition_fields, record_of, ConditionFits, RecordFits};
 
+use bigendian::BigEndian;
 use fields::HEADER_SIZE;
-use judge::Conclusion;
-use limits::MOST_TANKS;
+use judge::{Conclusion, MeasuredTrial};
 
 // Document 01, "Layout of case and record".
 const VERDICT_TAG: u8 = 0x10;
@@ -36,9 +36,9 @@ const NONE_AT: usize = HEADER_SIZE;
 const DECIDES_AT: usize = NONE_AT + 1;
 
 // Where a row's reach stands in its pair, and how long the pair is.
-const REACH_AT: usize = bigendian::SIZE_64;
+const REACH_AT: usize = i64::SIZE;
 
-const PAIR_SIZE: usize = REACH_AT + bigendian::SIZE_64;
+const PAIR_SIZE: usize = REACH_AT + u64::SIZE;
 
 // Lengths of values.
 const VERDICT_LENGTH: u16 = 3;
@@ -48,8 +48,8 @@ const FACTOR_LENGTH: u16 = 2;
 // Where the answer's field begins, behind the verdict's.
 const ANSWER_AT: usize = HEADER_SIZE + VERDICT_LENGTH as usize;
 
-// The lengths and places of the fields of a condition with n figures and rows.
-#[derive(Drop)]
+// The lengths and places of the fields of a condition with n figures and rows. n is a plain number here: only `Equations` has figures that it counts.
+#[derive(Clone, Copy)]
 struct ConditionPlaces {
     answer_len: usize,
     rows: usize,
@@ -64,7 +64,7 @@ fn condition_places(n: usize) -> ConditionPlaces
     requires { n ≤ most_tanks }
     ensures { ConditionPlaced n result }
 {
-    let answer_len = bigendian::SIZE_32 * n;
+    let answer_len = i32::SIZE * n;
     let rows = ANSWER_AT + HEADER_SIZE + answer_len;
     let rows_len = PAIR_SIZE * n;
     let factor = rows + HEADER_SIZE + rows_len;
@@ -80,7 +80,7 @@ fn condition_places(n: usize) -> ConditionPlaces
 fn flag(b: bool) -> u8
     ensures { result ≡ flag_of b }
 {
-    if b { 1 } else { 0 }
+    u8::from(b)
 }
 
 // Field 10, over the front of out.
@@ -96,35 +96,21 @@ fn write_verdict(met: bool, unmet: u8, rounds: u8, out: &mut [u8])
 }
 
 // Row i's residual and reach, over the front of that row's bytes. The reach is loaded once the residual is written: both loaded first are slower.
-fn write_pair<'a>(
-    i: usize,
-    residuals: &'a [i64; MOST_TANKS],
-    reaches: &'a [u64; MOST_TANKS],
-    out: &mut [u8],
-)
+fn write_pair(i: usize, trial: &MeasuredTrial, out: &mut [u8])
     requires { (i < most_tanks) × (pair_size ≤ length out.old) }
-    ensures { out.new ≡ onto (pair_at residuals.now reaches.now i) out.old }
+    ensures { out.new ≡ onto (pair_at trial.now.residuals trial.now.reaches i) out.old }
 {
-    bigendian::write_i64(residuals[i], out);
-    bigendian::write_u64(reaches[i], &mut out[REACH_AT..]);
+    trial.residuals[i].write(out);
+    trial.reaches[i].write(&mut out[REACH_AT..]);
 }
 
 // The pairs of n rows, each lent its part of out.
-fn write_pairs<'a>(
-    n: usize,
-    residuals: &'a [i64; MOST_TANKS],
-    reaches: &'a [u64; MOST_TANKS],
-    out: &mut [u8],
-)
+fn write_pairs(n: usize, trial: &MeasuredTrial, out: &mut [u8])
     requires { (n ≤ most_tanks) × (rows_length n ≤ length out.old) }
-    ensures { out.new ≡ onto (run n (pair_at residuals.now reaches.now)) out.old }
+    ensures { out.new ≡ onto (run n (pair_at trial.now.residuals trial.now.reaches)) out.old }
 {
-    let mut i = 0;
-    let mut at = 0;
-    while i < n {
-        write_pair(i, residuals, reaches, &mut out[at..]);
-        i += 1;
-        at += PAIR_SIZE;
+    for i in 0..n {
+        write_pair(i, trial, &mut out[i * PAIR_SIZE..]);
     }
 }
 
@@ -146,67 +132,57 @@ fn write_answer(n: usize, answer: &[i32], out: &mut [u8])
 {
     let places = condition_places(n);
     fields::write_header(ANSWER_TAG, places.answer_len as u16, out);
-    figures::write_i32s(&answer[..n], &mut out[HEADER_SIZE..]);
+    figures::write(&answer[..n], &mut out[HEADER_SIZE..]);
 }
 
 // Field 12, over the front of out.
-fn write_rows<'a>(
-    n: usize,
-    residuals: &'a [i64; MOST_TANKS],
-    reaches: &'a [u64; MOST_TANKS],
-    out: &mut [u8],
-)
+fn write_rows(n: usize, trial: &MeasuredTrial, out: &mut [u8])
     requires { (n ≤ most_tanks) × (header_size + rows_length n ≤ length out.old) }
-    ensures { out.new ≡ onto (rows_field n residuals.now reaches.now) out.old }
+    ensures { out.new ≡ onto (rows_field n trial.now.residuals trial.now.reaches) out.old }
 {
     let places = condition_places(n);
     fields::write_header(ROWS_TAG, places.rows_len as u16, out);
-    write_pairs(n, residuals, reaches, &mut out[HEADER_SIZE..]);
+    write_pairs(n, trial, &mut out[HEADER_SIZE..]);
 }
 
 // The fields 10 to 13 of one condition, over the front of out: the first n figures of its answer, the rounds used, and what is concluded of them. The
-// length of the four fields is returned, and bytes beyond them stay as they were.
-pub fn write_condition<'a>(
+// length of the four fields is returned, and bytes beyond them stay as they were. Rounds and conclusion are handed over one by one: the struct that
+// holds both is the solver's, and a record is of any judged trial.
+pub fn write_condition(
     n: usize,
     rounds: usize,
     conclusion: Conclusion,
-    answer: &'a [i32; MOST_TANKS],
-    residuals: &'a [i64; MOST_TANKS],
-    reaches: &'a [u64; MOST_TANKS],
+    trial: &MeasuredTrial,
     out: &mut [u8],
 ) -> usize
-    requires { ConditionFits n rounds (judgement_from conclusion residuals.now reaches.now) (length out.old) }
-    ensures { Wrote (condition_fields n rounds answer.now (judgement_from conclusion residuals.now reaches.now)) 0 out.old result out.new }
+    requires { ConditionFits n rounds (judgement_from conclusion trial.now.residuals trial.now.reaches) (length out.old) }
+    ensures { Wrote (condition_fields n rounds trial.now.figures (judgement_from conclusion trial.now.residuals trial.now.reaches)) 0 out.old result out.new }
 {
     let places = condition_places(n);
-    let rows = places.rows;
-    let factor = places.factor;
     write_verdict(conclusion.met, conclusion.unmet as u8, rounds as u8, out);
-    write_answer(n, answer, &mut out[ANSWER_AT..]);
-    write_rows(n, residuals, reaches, &mut out[rows..]);
+    write_answer(n, &trial.figures, &mut out[ANSWER_AT..]);
+    write_rows(n, trial, &mut out[places.rows..]);
     write_factor(
         conclusion.none,
         conclusion.decides as u8,
-        &mut out[factor..],
+        &mut out[places.factor..],
     );
     places.len
 }
 
 // The whole record over the front of out: the fields of its condition, and the end field behind them. The record's length is returned, and bytes
 // beyond it stay as they were.
-pub fn write_record<'a>(
+pub fn write_record(
     n: usize,
     rounds: usize,
     conclusion: Conclusion,
-    answer: &'a [i32; MOST_TANKS],
-    residuals: &'a [i64; MOST_TANKS],
-    reaches: &'a [u64; MOST_TANKS],
+    trial: &MeasuredTrial,
     out: &mut [u8],
 ) -> usize
-    requires { RecordFits n rounds (judgement_from conclusion residuals.now reaches.now) (length out.old) }
-    ensures { Wrote (record_of n rounds answer.now (judgement_from conclusion residuals.now reaches.now)) 0 out.old result out.new }
+    requires { RecordFits n rounds (judgement_from conclusion trial.now.residuals trial.now.reaches) (length out.old) }
+    ensures { Wrote (record_of n rounds trial.now.figures (judgement_from conclusion trial.now.residuals trial.now.reaches)) 0 out.old result out.new }
 {
-    let end = write_condition(n, rounds, conclusion, answer, residuals, reaches, out);
+    let end = write_condition(n, rounds, conclusion, trial, out);
     fields::write_end(&mut out[end..]);
     end + fields::END_SIZE
 }

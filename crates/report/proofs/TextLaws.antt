@@ -16,11 +16,11 @@ pub data Bounded : List (List ℕ) → List ℕ → Type 0 where
   none : Bounded [] []
   some : {text : List ℕ} {texts : List (List ℕ)} {b : ℕ} {bs : List ℕ} → length text ≤ b → Bounded texts bs → Bounded (text ∷ texts) (b ∷ bs)
 
-abbrev summed : List ℕ → ℕ
+abbrev pub summed : List ℕ → ℕ
 summed [] = 0
 summed (b ∷ bs) = b + summed bs
 
-length_concat : (texts : List (List ℕ)) (bs : List ℕ) → Bounded texts bs → length (concat texts) ≤ summed bs
+pub length_concat : (texts : List (List ℕ)) (bs : List ℕ) → Bounded texts bs → length (concat texts) ≤ summed bs
 length_concat texts bs none = omega arith
 length_concat texts bs (some {text = text} {texts = rest} {bs = cs} h r) =
     omega (arith, length-append text (concat rest), length_concat rest cs r)

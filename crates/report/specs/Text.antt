@@ -2,10 +2,12 @@
 -- What is printed of a judged condition, and of a refusal, byte for byte: document 01's "Printed verdict".
 use Rattle.std.specs.Prelude.{ℕ, ◌+◌, ◌*◌, ◌≤◌, ℤ, pos, get_or, length, Bool, cond, List, [], ◌∷◌, ◌++◌}
 use Rattle.limits.specs.Limits.{most_tanks, most_exponent}
-use Rattle.buffer.specs.Buffer.{run, concat, Wrote}
+use Rattle.buffer.specs.Buffer.{run, concat}
 use Rattle.judge.specs.Finding.{Finding, finding}
 use Rattle.judge.specs.Judgement.{Judgement}
 use Rattle.decimal.specs.Decimal.{line_feed, decimal_digits, signed_decimal, fixed_point, ascii}
+use Rattle.decimal.specs.Writing.{Writes}
+use Rattle.decimal.specs.declared.TextWriter.{TextWriter}
 
 -- what is printed of a condition: the answer's figures Y by tank, from 0, and what was found of it
 pub record Report : Type 0 where
@@ -91,6 +93,6 @@ pub record TextFits (n e at room : ℕ) : Type 0 where
   pub enough : at + text_room ≤ room
 
 -- a text was written, and it has at most `limit` bytes
-pub record WroteWithin (limit : ℕ) (text : List ℕ) (at : ℕ) (before : List ℕ) (next : ℕ) (after : List ℕ) : Type 0 where
+pub record WroteWithin (limit : ℕ) (text : List ℕ) (before after : TextWriter) : Type 0 where
   pub short : length text ≤ limit
-  pub wrote : Wrote text at before next after
+  pub wrote : Writes text before after

@@ -1,7 +1,8 @@
 -- What a caller may use of `rnd`. All of it rests on the laws beside the rule for halves, and none of it on the rule but `near_even`, `rnd_half`,
 -- `rnd_mono`, `rnd_scale` and `rnd_scale_parts`. Assumes nothing.
-use Rattle.std.specs.Prelude.{ℕ, zero, suc, ◌+◌, ◌*◌, ◌-◌, ◌/◌, ◌%◌, ◌^◌, ◌<◌, ◌≤◌, ltb, ℤ, pos, negsuc, neg_ℤ, nat_abs, ◌+ℤ◌, ◌-ℤ◌, ◌*ℤ◌, Bool, true, false, cond, ◌≡◌, refl}
-use Rattle.std.proofs.Common.{ltb-true, ltb-false, sym, ap, ◌∙◌, le_antisymm, mul-le-mul_left, mul-pos, div-add-mod', mod-lt, arith}
+use Rattle.std.specs.Prelude.{ℕ, zero, suc, ◌+◌, ◌*◌, ◌-◌, ◌/◌, ◌%◌, ◌^◌, ◌<◌, ◌≤◌, T, ltb, ℤ, pos, negsuc, neg_ℤ, nat_abs, ◌+ℤ◌, ◌-ℤ◌, ◌*ℤ◌, Bool, true, false, cond, ◌≡◌, refl}
+use Rattle.std.proofs.Common.{ltb-true, ltb-false, sym, ap, subst, ◌∙◌, le_antisymm, mul-le-mul_left, mul-pos, div-add-mod', mod-lt, arith}
+use mathlib.Core.Bool.{beq}
 use Rattle.std.proofs.Math.Dec.{leb-suc-zero}
 use Rattle.std.proofs.Math.IntN.{*ℤ-zero, neg_ℤ-neg_ℤ}
 use Rattle.std.specs.Int.Signed.{lt_z}
@@ -182,6 +183,26 @@ rnd_signs (pos a) (pos b) = rw (leb-suc-zero a, leb-suc-zero b)
 rnd_signs (pos a) (negsuc b) = rw (leb-suc-zero a)
 rnd_signs (negsuc a) (pos b) = rw (leb-suc-zero b)
 rnd_signs (negsuc a) (negsuc b) = refl
+
+-- by the test whether the signs are the same
+module _ (p q : ℤ) where
+  pub rnd_same_sign : beq (lt_z p (pos 0)) (lt_z q (pos 0)) ≡ true → rnd p q ≡ pos (near (nat_abs p) (nat_abs q))
+  rnd_same_sign e = rnd_signs p q ∙ go (lt_z p (pos 0)) (lt_z q (pos 0)) _ _ e
+    where
+      go : (s t : Bool) (x y : ℤ) → beq s t ≡ true → cond s (cond t x y) (cond t y x) ≡ x
+      go true true x y e = refl
+      go true false x y e = absurd (subst T (sym e) tt)
+      go false true x y e = absurd (subst T (sym e) tt)
+      go false false x y e = refl
+
+  pub rnd_other_sign : beq (lt_z p (pos 0)) (lt_z q (pos 0)) ≡ false → rnd p q ≡ neg_ℤ (pos (near (nat_abs p) (nat_abs q)))
+  rnd_other_sign e = rnd_signs p q ∙ go (lt_z p (pos 0)) (lt_z q (pos 0)) _ _ e
+    where
+      go : (s t : Bool) (x y : ℤ) → beq s t ≡ false → cond s (cond t x y) (cond t y x) ≡ y
+      go true true x y e = absurd (subst T e tt)
+      go true false x y e = refl
+      go false true x y e = refl
+      go false false x y e = absurd (subst T e tt)
 
 -- a dividend that is not the least number has a quotient that fits
 pub defined : (p q : ℤ) → nat_abs p < 2 ^ 63 → 0 < nat_abs q → Defined p q

@@ -1,7 +1,7 @@
 // Rounded division of signed numbers.
 #![tactic(auto)]
 
-ghost use Rattle.std.specs.Prelude.{◌<◌, ◌≤◌, ◌^◌, pos, neg_ℤ, nat_abs, ◌≡◌};
+ghost use Rattle.std.specs.Prelude.{◌<◌, pos, nat_abs, ◌≡◌};
 ghost use Rattle.rounding.specs.Half.{last_bit_of, is_rounded_up};
 ghost use Rattle.rounding.specs.Round.{near, rnd, Defined};
 ghost use Rattle.rounding.specs.Scale.{multiplier_scale};
@@ -24,14 +24,6 @@ fn nearest(a: u64, b: u64) -> u64
     if rounds_up(q, r, b) { q + 1 } else { q }
 }
 
-// The number of this magnitude below zero.
-fn negated(m: u64) -> i64
-    requires { m ≤ 2 ^ 63 }
-    ensures { result ≡ neg_ℤ (pos m) }
-{
-    if m == 0 { 0 } else { 0 - ((m - 1) as i64) - 1 }
-}
-
 // rnd(p/q): the nearest whole number to p / q, with either sign of p and q. Asks only that q is not 0 and that the result fits:
 // of all others, only the least number over -1 has a result that does not.
 pub fn rounded_quotient(p: i64, q: i64) -> i64
@@ -39,10 +31,10 @@ pub fn rounded_quotient(p: i64, q: i64) -> i64
     ensures { result ≡ rnd p q }
 {
     let m = nearest(integers::magnitude(p), integers::magnitude(q));
-    if p < 0 {
-        if q < 0 { m as i64 } else { negated(m) }
+    if (p < 0) == (q < 0) {
+        m as i64
     } else {
-        if q < 0 { negated(m) } else { m as i64 }
+        0i64.strict_sub_unsigned(m)
     }
 }
 

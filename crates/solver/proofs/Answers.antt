@@ -1,6 +1,6 @@
 -- What holds of every solution: its trial is within its limits and an answer is judged, its rounds are those that were made, which trial is kept, and
 -- refusals 8 and 9 have their conditions. Assumes nothing.
-use Rattle.std.specs.Prelude.{ℕ, suc, ◌≤◌, ℤ, length, List, ◌≡◌}
+use Rattle.std.specs.Prelude.{ℕ, suc, ◌≤◌, ℤ, length, List, ◌≡◌, Ok, Err}
 use Rattle.std.proofs.Common.{true≢false, sym, ap, ◌∙◌, arith}
 use Rattle.std.proofs.Math.Path.{refl}
 use Rattle.limits.specs.Limits.{most_tanks}
@@ -9,15 +9,12 @@ use Rattle.integers.specs.Tables.{Within}
 use Rattle.judge.proofs.Deciding.{lesser_has_factor}
 use Rattle.judge.specs.System.{System, trial}
 use Rattle.elimination.specs.Claims.{ZeroColumn}
-use Rattle.elimination.specs.Outcome.{outcome}
+use Rattle.elimination.specs.Outcome.{Elimination, outcome, zero_pivot}
 use Rattle.elimination.proofs.OutcomeLaws.{zero_pivot_column, column_zero_pivot}
 use Rattle.elimination.specs.Steps.{eliminated}
-use Rattle.elimination.specs.declared.Elimination.{Elimination}
-use Rattle.elimination.specs.declared.Elimination.TheVariants as E
-use Rattle.outcome.specs.Outcome.{status_number}
+use Rattle.outcome.specs.Outcome.{status_number, Accepted}
 use Rattle.outcome.specs.declared.Refusal.{Refusal}
 use Rattle.outcome.specs.declared.Refusal.TheVariants.{ZeroPivot, OutsideRange}
-use Rattle.outcome.specs.declared.Status.TheVariants.{Accepted, Refused}
 use Rattle.solver.specs.Claims.{KeptAnswer, Rounds, UnmetBefore, BestRound, KeptTrial, working_of, order_of, Complete, KeptOfRounds, OutsideRangeFound, ZeroPivotFound}
 use Rattle.solver.proofs.Endings.{Solutions, solutions}
 use Rattle.solver.proofs.KeptLaws.{first_outside_refused}
@@ -29,7 +26,7 @@ use Rattle.solver.specs.Refinement.{figure_limit, start, trial_of_round}
 use Rattle.solver.specs.Solution.{Solution, judged_trial, refused_solution, by_elimination, solved, solution}
 
 -- nothing is accepted beside a refusal
-accepted_not : {A : Type 0} {q : Refusal} → Refused q ≡ Accepted → A
+accepted_not : {A : Type 0} {q : Refusal} → Err q ≡ Accepted → A
 accepted_not e = let z : ◌≡◌ {A = ℕ} 0 1 = cc in absurd (omega arith)
 
 module _ (s : System) (D K : ℕ) where
@@ -41,15 +38,15 @@ module _ (s : System) (D K : ℕ) where
 
   -- P in each way in which the rounds end, over a complete elimination, and where it is not complete
   cases : (P : Solution → Type 0) → (Complete s → Solutions w o s D K P)
-      → ((k : ℕ) → outcome s.n (eliminated s.n s.rows.A).steps ≡ E.ZeroPivot k → P (refused_solution ZeroPivot (start s D)))
+      → ((k : ℕ) → outcome s.n (eliminated s.n s.rows.A).steps ≡ zero_pivot k → P (refused_solution ZeroPivot (start s D)))
       → P (solution s D K)
   unfolding solution
   cases P h d = go (outcome s.n (eliminated s.n s.rows.A).steps) refl
     where
       go : (e : Elimination) → outcome s.n (eliminated s.n s.rows.A).steps ≡ e
           → P (by_elimination e (solved w o s D K) (refused_solution ZeroPivot (start s D)))
-      go E.Complete q = solutions w o s D K P (h q)
-      go (E.ZeroPivot k) q = d k q
+      go (Ok _) q = solutions w o s D K P (h q)
+      go (Err e) q = d e.steps q
 
   -- the kept trial, and its judgement where it is an answer
   pub answer : KeptAnswer s D (solution s D K)
@@ -130,13 +127,13 @@ module _ (s : System) (D K : ℕ) where
 
   -- ---- refusal 8 exactly if at some step every candidate for the pivot is zero
 
-  pub zero_pivot_refused : (k : ℕ) → ZeroColumn s.n s.rows.A k → (solution s D K).status ≡ Refused ZeroPivot
+  pub zero_pivot_refused : (k : ℕ) → ZeroColumn s.n s.rows.A k → (solution s D K).status ≡ Err ZeroPivot
   zero_pivot_refused k c =
       ap (λ (r : Solution). r.status) (sym (solution_refused s D K k (start s D) refl (column_zero_pivot s.n s.rows.A k c)))
 
-  pub refused_zero_pivot : (solution s D K).status ≡ Refused ZeroPivot → ZeroPivotFound s
+  pub refused_zero_pivot : (solution s D K).status ≡ Err ZeroPivot → ZeroPivotFound s
   refused_zero_pivot =
-      cases (λ r. r.status ≡ Refused ZeroPivot → ZeroPivotFound s)
+      cases (λ r. r.status ≡ Err ZeroPivot → ZeroPivotFound s)
       (λ _. record {
         no_round = λ _ e. absurd (omega (arith, ap status_number e));
         met = λ k f e. absurd (omega (arith, ap status_number e));
@@ -147,14 +144,14 @@ module _ (s : System) (D K : ℕ) where
 
   -- ---- refusal 9 exactly if the elimination is complete and some round leaves its limits with none met before it
 
-  pub outside_range_refused : OutsideRangeFound s D K → (solution s D K).status ≡ Refused OutsideRange
+  pub outside_range_refused : OutsideRangeFound s D K → (solution s D K).status ≡ Err OutsideRange
   outside_range_refused f =
       ap (λ (r : Solution). r.status) (sym (solution_solved s D w o refl refl f.complete K))
       ∙ first_outside_refused w o s D K f.round f.first
 
-  pub refused_outside_range : (solution s D K).status ≡ Refused OutsideRange → OutsideRangeFound s D K
+  pub refused_outside_range : (solution s D K).status ≡ Err OutsideRange → OutsideRangeFound s D K
   refused_outside_range =
-      cases (λ r. r.status ≡ Refused OutsideRange → OutsideRangeFound s D K)
+      cases (λ r. r.status ≡ Err OutsideRange → OutsideRangeFound s D K)
       (λ q. record {
         no_round = λ _ e. absurd (omega (arith, ap status_number e));
         met = λ k f e. absurd (omega (arith, ap status_number e));

@@ -1,10 +1,9 @@
 -- What is kept, from the trials of the rounds: the first that is met, refusal 9, or the best. Rounds are counted from 1. Assumes nothing.
-use Rattle.std.specs.Prelude.{ℕ, suc, ◌<◌, ℤ, List, ◌≡◌, refl}
+use Rattle.std.specs.Prelude.{ℕ, suc, ◌<◌, ℤ, List, ◌≡◌, refl, Err}
 use Rattle.std.proofs.Common.{true≢false, sym, ap, ◌∙◌, arith}
 use Rattle.std.proofs.Math.Decide.{dec_lt}
 use Rattle.judge.specs.System.{System}
 use Rattle.outcome.specs.declared.Refusal.TheVariants.{OutsideRange}
-use Rattle.outcome.specs.declared.Status.TheVariants.{Refused}
 use Rattle.solver.specs.Claims.{UnmetBefore, FirstMet, FirstOutside}
 use Rattle.solver.proofs.Endings.{solutions}
 use Rattle.solver.specs.Ranking.{best_round}
@@ -52,9 +51,9 @@ module _ (w : List (List ℤ)) (o : List ℕ) (s : System) (D K : ℕ) where
       })
 
   -- if a round leaves its limits before any is met, there is no answer
-  pub first_outside_refused : (k : ℕ) → FirstOutside w o s D K k → (solved w o s D K).status ≡ Refused OutsideRange
+  pub first_outside_refused : (k : ℕ) → FirstOutside w o s D K k → (solved w o s D K).status ≡ Err OutsideRange
   first_outside_refused k f =
-      solutions w o s D K (λ r. r.status ≡ Refused OutsideRange)
+      solutions w o s D K (λ r. r.status ≡ Err OutsideRange)
       (record {
         no_round = λ z. absurd (omega (arith, f.some, f.few));
         met = λ i m. absurd (met_outside i k m f);

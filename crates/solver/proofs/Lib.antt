@@ -1,5 +1,6 @@
 pub mod Sizes
 pub mod Laws
+pub mod RoundLaws
 pub mod RankingLaws
 pub mod Endings
 pub mod Outcomes

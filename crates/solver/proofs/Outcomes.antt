@@ -1,22 +1,22 @@
 -- The solution by the elimination's outcome and the rounds allowed, as the code finds it. Assumes nothing.
-use Rattle.std.specs.Prelude.{ℕ, ◌^◌, ◌≤◌, ℤ, List, ◌≡◌, refl}
-use Rattle.std.proofs.Common.{ap}
+use Rattle.std.specs.Prelude.{ℕ, ◌^◌, ◌≤◌, ℤ, List, ◌≡◌, refl, Err}
+use Rattle.std.proofs.Common.{ap, sym}
 use Rattle.limits.specs.Limits.{most_tanks}
 use Rattle.integers.specs.TableLaws.{zeros_within}
 use Rattle.integers.specs.Tables.{Within}
 use Rattle.judge.specs.System.{System}
 use Rattle.elimination.proofs.Factors.{factors}
 use Rattle.elimination.proofs.Order.{permutation}
-use Rattle.elimination.specs.Outcome.{outcome}
+use Rattle.elimination.specs.Outcome.{outcome, complete, zero_pivot}
 use Rattle.elimination.proofs.OutcomeLaws.{complete_steps}
 use Rattle.elimination.specs.Steps.{eliminated}
-use Rattle.elimination.specs.declared.Elimination.TheVariants as E
 use Rattle.outcome.proofs.Laws.{same_status}
 use Rattle.outcome.specs.Outcome.{status_number}
 use Rattle.outcome.specs.declared.Refusal.TheVariants.{ZeroPivot}
 use Rattle.solver.specs.Limits.{Eliminated, Resumable}
 use Rattle.solver.specs.Refinement.{Progress, start}
-use Rattle.solver.specs.Solution.{Solution, refused_solution, solved, solution, SolutionIs}
+use Rattle.solver.specs.Solution.{Solution, solution_from, refused_solution, solved, solution, SolutionIs}
+use Rattle.solver.specs.declared.Unsolved.{Unsolved}
 
 module _ (s : System) (D : ℕ) where
   pub start_resumable : (p : Progress) → p ≡ start s D → Resumable s D p
@@ -25,19 +25,19 @@ module _ (s : System) (D : ℕ) where
   -- ---- by the elimination's outcome
 
   module _ (w : List (List ℤ)) (o : List ℕ) (working_is : w ≡ (eliminated s.n s.rows.A).working) (order_is : o ≡ (eliminated s.n s.rows.A).order)
-      (complete : outcome s.n (eliminated s.n s.rows.A).steps ≡ E.Complete) where
+      (all_steps : outcome s.n (eliminated s.n s.rows.A).steps ≡ complete) where
     pub eliminated_whole : s.n ≤ most_tanks → Within (2 ^ 15) s.rows.A → Eliminated s.n w o
     eliminated_whole h a =
         rw (working_is, order_is) (record {
-          factors = factors s.n s.rows.A h a (complete_steps s.n (eliminated s.n s.rows.A).steps complete);
+          factors = factors s.n s.rows.A h a (complete_steps s.n (eliminated s.n s.rows.A).steps all_steps);
           order = permutation s.n s.rows.A h;
         })
 
     pub solution_solved : (K : ℕ) → solved w o s D K ≡ solution s D K
     unfolding solution
-    solution_solved K = rw (complete, working_is, order_is)
+    solution_solved K = rw (all_steps, working_is, order_is)
 
-  pub solution_refused : (K k : ℕ) (p : Progress) → p ≡ start s D → outcome s.n (eliminated s.n s.rows.A).steps ≡ E.ZeroPivot k → refused_solution ZeroPivot p ≡ solution s D K
+  pub solution_refused : (K k : ℕ) (p : Progress) → p ≡ start s D → outcome s.n (eliminated s.n s.rows.A).steps ≡ zero_pivot k → refused_solution ZeroPivot p ≡ solution s D K
   unfolding solution
   solution_refused K k p f e = rw (e, f)
 
@@ -61,6 +61,11 @@ module _ (r x : Solution) where
         trial = h.trial i;
         judgement = h.judgement i;
       }
+
+-- an error is the refusal, whatever trial, residuals and reaches stand beside it
+pub refused_is : (u : Unsolved) (p : Progress) → p.rounds ≡ u.rounds
+    → SolutionIs (solution_from (Err u) (record { figures = p.trial; residuals = p.judgement.residuals; reaches = p.judgement.reaches })) (refused_solution u.refusal p)
+refused_is u p e = record { number = refl; rounds = sym e; trial = refl; judgement = refl }
 
 -- and so of one that is equal to it
 pub promised_also : {r x y : Solution} → SolutionIs r x → x ≡ y → SolutionIs r y

@@ -11,6 +11,7 @@ use Rattle.fractions.specs.Least.{less, first_least, FirstLeast}
 use Rattle.fractions.proofs.RankLaws.{first_least_is}
 use Rattle.judge.specs.Judgement.{Judgement, deciding_factor}
 use Rattle.judge.specs.System.{System}
+use Rattle.judge.specs.declared.MeasuredTrial.{MeasuredTrial}
 use Rattle.solver.specs.RankedTrials.{RankedTrial, ranked_trial, ranked_from, best_from, replaces, better_trial, ranked, best_after, best_of_rounds}
 use Rattle.solver.specs.Ranking.{factor_of_round, best_round}
 use Rattle.solver.specs.declared.BestTrial.{BestTrial}
@@ -18,14 +19,13 @@ use Rattle.solver.specs.Refinement.{Progress, judged_progress, ended, trial_of_r
 
 -- ---- where the best trial stands
 
--- in lists of its own where it is not the last
-pub not_last : (b : BestTrial) (Y R : List ℤ) (T : List ℕ) (BY BR : List ℤ) (BT : List ℕ) → b.last ≡ false → best_from b Y R T BY BR BT ≡ ranked_from b BY BR BT
-not_last b Y R T BY BR BT e = ap (λ (t : Bool). ranked_from b (cond t Y BY) (cond t R BR) (cond t T BT)) e
+-- by itself where it is not the last
+pub not_last : (b : BestTrial) (t u : MeasuredTrial) → b.last ≡ false → best_from b t u ≡ ranked_from b u
+not_last b t u e = ap (λ (x : Bool). ranked_from b (cond x t u)) e
 
 -- and so where it is stored before the last gives way to the next
-pub stored_is : (b : BestTrial) (Y R : List ℤ) (T : List ℕ) (BY BR : List ℤ) (BT : List ℕ) {SY SR : List ℤ} {ST : List ℕ}
-    → SY ≡ cond b.last Y BY → SR ≡ cond b.last R BR → ST ≡ cond b.last T BT → ranked_from b SY SR ST ≡ best_from b Y R T BY BR BT
-stored_is b Y R T BY BR BT y r t = λ i. ranked_from b (y i) (r i) (t i)
+pub stored_is : (b : BestTrial) (t u : MeasuredTrial) {v : MeasuredTrial} → v ≡ cond b.last t u → ranked_from b v ≡ best_from b t u
+stored_is b t u e = ap (ranked_from b) e
 
 -- ---- one more trial
 

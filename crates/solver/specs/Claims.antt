@@ -6,13 +6,12 @@ use Rattle.fractions.specs.Fraction.{◌≼◌, ◌≺◌}
 use Rattle.judge.specs.Judgement.{judgement}
 use Rattle.judge.specs.System.{System, trial}
 use Rattle.elimination.specs.Claims.{ZeroColumn}
-use Rattle.elimination.specs.Outcome.{outcome}
+use Rattle.elimination.specs.Outcome.{outcome, complete}
 use Rattle.elimination.specs.Steps.{eliminated}
-use Rattle.elimination.specs.declared.Elimination.TheVariants as E
-use Rattle.outcome.specs.declared.Status.TheVariants.{Accepted}
 use Rattle.solver.specs.Ranking.{factor_of_round}
 use Rattle.solver.specs.Refinement.{figure_limit, trial_of_round, within_of_round, judgement_of_round}
 use Rattle.solver.specs.Solution.{Solution}
+use Rattle.outcome.specs.Outcome.{Accepted}
 
 -- the kept trial is within ±10,000,000, and the judgement beside an answer is its own: the same as for a trial that a case brings
 pub record KeptAnswer (s : System) (D : ℕ) (r : Solution) : Type 0 where
@@ -79,7 +78,7 @@ abbrev pub order_of : System → List ℕ
 order_of s = (eliminated s.n s.rows.A).order
 
 abbrev pub Complete : System → Type 0
-Complete s = outcome s.n (eliminated s.n s.rows.A).steps ≡ E.Complete
+Complete s = outcome s.n (eliminated s.n s.rows.A).steps ≡ complete
 
 pub record KeptOfRounds (s : System) (D K : ℕ) (r : Solution) : Type 0 where
   pub complete : Complete s

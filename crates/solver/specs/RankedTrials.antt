@@ -5,6 +5,7 @@ use Rattle.fractions.specs.Fraction.{◌over◌, Fraction}
 use Rattle.fractions.specs.Least.{less}
 use Rattle.judge.specs.Judgement.{Judgement, judgement_from, deciding_factor}
 use Rattle.judge.specs.System.{System}
+use Rattle.judge.specs.declared.MeasuredTrial.{MeasuredTrial}
 use Rattle.solver.specs.Ranking.{best_round}
 use Rattle.solver.specs.Refinement.{nothing_said_yet, Progress, trial_of_round, judgement_of_round}
 use Rattle.solver.specs.declared.BestTrial.{BestTrial}
@@ -18,17 +19,17 @@ pub record RankedTrial : Type 0 where
 abbrev pub ranked_trial : List ℤ → Judgement → RankedTrial
 ranked_trial Y j = record { trial = Y; judgement = j; factor = deciding_factor j }
 
--- as code holds it: its lists Y, R and T stand beside what is kept of the best trial
-abbrev pub ranked_from : BestTrial → List ℤ → List ℤ → List ℕ → RankedTrial
-ranked_from b Y R T = record { trial = Y; judgement = judgement_from b.conclusion R T; factor = b.numerator over b.denominator }
+-- as code holds it: the trial, with what it leaves of the rows, stands beside what is kept of the best one
+abbrev pub ranked_from : BestTrial → MeasuredTrial → RankedTrial
+ranked_from b t = record { trial = t.figures; judgement = judgement_from b.conclusion t.residuals t.reaches; factor = b.numerator over b.denominator }
 
--- they are those of the last trial where it is that one, and lists of their own otherwise
-abbrev pub best_from : BestTrial → List ℤ → List ℤ → List ℕ → List ℤ → List ℤ → List ℕ → RankedTrial
-best_from b Y R T BY BR BT = ranked_from b (cond b.last Y BY) (cond b.last R BR) (cond b.last T BT)
+-- it is the last trial t where it is that one, and the other, u, otherwise
+abbrev pub best_from : BestTrial → MeasuredTrial → MeasuredTrial → RankedTrial
+best_from b t u = ranked_from b (cond b.last t u)
 
 -- before the first round no trial is ranked, whatever stands in the best one's place
-abbrev pub unranked : List ℤ → List ℤ → List ℕ → RankedTrial
-unranked Y R T = record { trial = Y; judgement = nothing_said_yet R T; factor = 0 over 0 }
+abbrev pub unranked : MeasuredTrial → RankedTrial
+unranked t = record { trial = t.figures; judgement = nothing_said_yet t.residuals t.reaches; factor = 0 over 0 }
 
 -- whether a trial with the factor g replaces the best of k trials before it, whose factor is f: a later one only where its factor is less
 abbrev pub replaces : ℕ → Fraction → Fraction → Bool

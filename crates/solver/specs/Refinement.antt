@@ -7,6 +7,7 @@ use Rattle.integers.specs.Tables.{filled}
 use Rattle.judge.specs.Judgement.{Judgement, judgement_from, residual_vector, judgement}
 use Rattle.judge.specs.System.{System, Trial, trial, zero_trial}
 use Rattle.substitution.specs.Passes.{Corrections, forward, backward}
+use Rattle.judge.specs.declared.MeasuredTrial.{MeasuredTrial}
 use Rattle.solver.specs.declared.RefinementState.{RefinementState}
 
 -- ---- from the residuals to the corrections
@@ -65,9 +66,9 @@ pub record Progress : Type 0 where
   pub trial : List ℤ
   pub judgement : Judgement
 
--- as code holds it: the lists Y, R and T stand beside the state
-abbrev pub progress_from : RefinementState → List ℤ → List ℤ → List ℕ → Progress
-progress_from r Y R T = record { within = r.within; rounds = r.rounds; trial = Y; judgement = judgement_from r.conclusion R T }
+-- as code holds it: the trial, with what it leaves of the rows, stands beside the state
+abbrev pub progress_from : RefinementState → MeasuredTrial → Progress
+progress_from r t = record { within = r.within; rounds = r.rounds; trial = t.figures; judgement = judgement_from r.conclusion t.residuals t.reaches }
 
 -- nothing is said of the start or of a refused trial, beside the residuals and reaches that stand there
 abbrev pub nothing_said_yet : List ℤ → List ℕ → Judgement

@@ -1,22 +1,20 @@
 -- Definitions only.
 -- The answer of a system, or the refusal: document 01's "The steps" as a whole.
-use Rattle.std.specs.Prelude.{ℕ, zero, suc, ℤ, pos, replicate, cond, List, ◌≡◌}
+use Rattle.std.specs.Prelude.{ℕ, zero, suc, ℤ, pos, replicate, cond, List, ◌≡◌, Result, Ok, Err}
 use Rattle.limits.specs.Limits.{most_tanks}
 use Rattle.judge.specs.Judgement.{Judgement, judgement_from, judgement}
 use Rattle.judge.specs.System.{System, trial}
-use Rattle.elimination.specs.Outcome.{outcome}
+use Rattle.judge.specs.declared.MeasuredTrial.{MeasuredTrial}
+use Rattle.elimination.specs.Outcome.{Elimination, outcome}
 use Rattle.elimination.specs.Steps.{eliminated}
-use Rattle.elimination.specs.declared.Elimination.{Elimination}
-use Rattle.elimination.specs.declared.Elimination.TheVariants.{Complete, ZeroPivot as Stopped}
-use Rattle.outcome.specs.Outcome.{status_number}
+use Rattle.outcome.specs.Outcome.{status_number, Accepted, Status}
 use Rattle.outcome.specs.declared.Refusal.{Refusal}
 use Rattle.outcome.specs.declared.Refusal.TheVariants.{ZeroPivot, OutsideRange}
-use Rattle.outcome.specs.declared.Status.{Status}
-use Rattle.outcome.specs.declared.Status.TheVariants.{Accepted, Refused}
 use Rattle.solver.specs.RankedTrials.{RankedTrial}
 use Rattle.solver.specs.Ranking.{best_round}
 use Rattle.solver.specs.Refinement.{Progress, nothing_said_yet, start, refined, trial_of_round}
 use Rattle.solver.specs.declared.Kept.{Kept}
+use Rattle.solver.specs.declared.Unsolved.{Unsolved}
 
 -- whether there is an answer, or the refusal: no pivot at some step (8), a correction or a figure outside its limits (9), or one from before the steps;
 -- the kept trial with its judgement, and the rounds used
@@ -26,10 +24,6 @@ pub record Solution : Type 0 where
   pub trial : List ℤ
   pub judgement : Judgement
 
--- as code holds it: the lists Y, R and T stand beside what is kept
-abbrev pub solution_from : Kept → List ℤ → List ℤ → List ℕ → Solution
-solution_from k Y R T = record { status = k.status; rounds = k.rounds; trial = Y; judgement = judgement_from k.conclusion R T }
-
 -- the trial Y after k rounds as an answer, with what is said of it; and judged
 abbrev pub accepted_solution : ℕ → List ℤ → Judgement → Solution
 accepted_solution k Y j = record { status = Accepted; rounds = k; trial = Y; judgement = j }
@@ -38,7 +32,12 @@ abbrev pub judged_trial : System → ℕ → ℕ → List ℤ → Solution
 judged_trial s D k Y = accepted_solution k Y (judgement s (trial s.n D Y))
 
 abbrev pub refused_solution : Refusal → Progress → Solution
-refused_solution r p = record { status = Refused r; rounds = p.rounds; trial = p.trial; judgement = nothing_said_yet p.judgement.residuals p.judgement.reaches }
+refused_solution r p = record { status = Err r; rounds = p.rounds; trial = p.trial; judgement = nothing_said_yet p.judgement.residuals p.judgement.reaches }
+
+-- as code holds it: the trial, with what it leaves of the rows, stands beside what is answered. Of a refused one nothing is said
+abbrev pub solution_from : Result Kept Unsolved → MeasuredTrial → Solution
+solution_from (Ok k) t = accepted_solution k.rounds t.figures (judgement_from k.conclusion t.residuals t.reaches)
+solution_from (Err u) t = record { status = Err u.refusal; rounds = u.rounds; trial = t.figures; judgement = nothing_said_yet t.residuals t.reaches }
 
 -- where the work ends at p: the last trial if it is met, the best if it is not, or refusal 9
 abbrev pub kept_at_end : Progress → Solution → Solution → Solution
@@ -56,8 +55,8 @@ solved w o s D (suc k) = kept_solution w o s D (suc k) (refined w o s D (suc k) 
 
 -- the rounds are made where the elimination is complete; refusal 8 comes where it is not
 abbrev pub by_elimination : Elimination → Solution → Solution → Solution
-by_elimination Complete a b = a
-by_elimination (Stopped k) a b = b
+by_elimination (Ok _) a b = a
+by_elimination (Err e) a b = b
 
 -- the solution of a system over the scale D, in at most K rounds
 unfoldable pub solution : System → ℕ → ℕ → Solution

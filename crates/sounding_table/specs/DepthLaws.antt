@@ -2,7 +2,9 @@
 -- search by halving, which finds it. Assumes nothing.
 use Rattle.std.specs.Prelude.{ℕ, zero, suc, ◌+◌, ◌*◌, ◌-◌, ◌<◌, ◌≤◌, leb, ℤ, pos, negsuc, nat_abs, ◌*ℤ◌, ◌≤ℤ◌, ◌<ℤ◌, Bool, true, List, ◌≡◌, refl}
 use Rattle.std.proofs.Common.{leb-false, le-leb, ltb-true, le-ltb, sym, ◌∙◌, add-zero, mul-le-mul_right}
-use Rattle.std.proofs.lemmas.Bool.{lt-leb}
+use Rattle.std.proofs.lemmas.Bool.{lt-leb, false≢true}
+use Rattle.std.proofs.lemmas.List.Sorted.{IsPartitionedBy-leb, IsNonDecreasingBy-from_default}
+use Rattle.std.specs.List.Sorted.{IsPartitionedBy, IsPartitionPoint}
 use Rattle.std.proofs.Math.Dec.{leb-zero}
 use Rattle.std.proofs.Math.ListN.{length}
 use Rattle.std.specs.Int.Signed.{lt_z, le_z}
@@ -145,3 +147,34 @@ module _ {table : List ℕ} {D : ℕ} {Y : ℤ} {low high : ℕ} (v : Halving ta
   halving_ended r l =
       let q : high ≡ low + 1 = omega (arith, v.between) in
       sym (depth_is r D Y low (omega (arith, v.between, v.inside)) v.not_above_lem (rw q at v.above))
+
+-- ---- the library's search: the entries that are not above stand first, and it finds how many there are
+
+module _ {table : List ℕ} {D : ℕ} {Y : ℤ} (s : Searchable table D Y) (mass : ℕ) (is : mass ≡ nat_abs Y * kilograms_in_tonne) where
+  fine_is : (h : ℕ) → leb (entry_at table h * D) mass ≡ not_above D Y (entry_at table h)
+  fine_is h = rw is (from_zero_above table D Y (from_zero D Y (entry_at table 0) s.first) h)
+
+  pub fine_first : IsPartitionedBy (λ entry. leb (entry * D) mass) table
+  fine_first =
+      IsPartitionedBy-leb (λ entry. entry * D) table mass
+      (IsNonDecreasingBy-from_default (λ entry. entry * D) table 0 λ i j h l.
+      let q : i + (j - i) ≡ j = omega arith in
+      mul-le-mul_right D (rw q at (ordered_le s.ordered i (j - i) (omega arith))))
+
+  module _ {i : ℕ} (inside : i ≤ length table) (p : IsPartitionPoint (λ entry. leb (entry * D) mass ≡ true) (λ entry. leb (entry * D) mass ≡ false) table i) where
+    pub some_fine : 0 < i
+    some_fine = go i refl
+      where
+        go : (k : ℕ) → i ≡ k → 0 < i
+        go zero e = absurd (false≢true (sym (p.1 0 0 (omega arith) s.some) ∙ fine_is 0 ∙ s.first))
+        go (suc k) e = omega arith
+
+    pub last_fine : i - 1 ≡ depth table D Y
+    last_fine =
+        let some = some_fine in
+        halving_ended (record {
+          between = omega (arith, some);
+          inside = inside;
+          not_above_lem = sym (fine_is (i - 1)) ∙ p.0 (i - 1) 0 (omega arith) (omega (arith, some));
+          above = λ l. sym (fine_is i) ∙ p.1 i 0 (omega arith) l;
+        }) s.ordered (omega (arith, some))

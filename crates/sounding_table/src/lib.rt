@@ -46,21 +46,11 @@ pub fn inside(table: &[u32], scale: u16, answer: i32) -> bool
     scaled_answer(answer) <= scaled_entry(table[table.len() - 1], scale)
 }
 
-// The greatest depth whose entry is not above the answer, by halving: the entry at `low` is not above, that at `high`, where there is one, is.
+// The greatest depth whose entry is not above the answer: the entries that are not above stand first, and their last one is the depth's.
 pub fn depth(table: &[u32], scale: u16, answer: i32) -> usize
     requires { Searchable table.now scale answer }
     ensures { result ≡ depth_in table.now scale answer }
 {
     let mass = scaled_answer(answer);
-    let mut low = 0;
-    let mut high = table.len();
-    while low + 1 < high {
-        let middle = low + (high - low) / 2;
-        if scaled_entry(table[middle], scale) <= mass {
-            low = middle;
-        } else {
-            high = middle;
-        }
-    }
-    low
+    table.partition_point(|entry| scaled_entry(*entry, scale) <= mass) - 1
 }

@@ -1,6 +1,6 @@
 -- What the call's result says: of a count, each tank's depth by the bytes; of refusal 10, that some answer is outside the table; of 2 to 9, that a record is
 -- refused so. Assumes nothing.
-use Rattle.std.specs.Prelude.{ℕ, ◌*◌, ◌^◌, ◌<◌, ◌≤◌, leb, ℤ, pos, length, get_or, take, drop, Bool, true, false, List, ◌++◌, ◌≡◌, refl}
+use Rattle.std.specs.Prelude.{ℕ, ◌*◌, ◌^◌, ◌<◌, ◌≤◌, leb, ℤ, pos, length, get_or, take, drop, Bool, true, false, List, ◌++◌, ◌≡◌, refl, Err, Ok}
 use Rattle.std.proofs.Common.{leb-true, le-leb, length-take-le, get_or-take, sym, ap, ◌∙◌, arith}
 use Rattle.limits.specs.Limits.{most_tanks}
 use Rattle.buffer.specs.AllLaws.{all_fails}
@@ -9,12 +9,9 @@ use Rattle.buffer.specs.RunLaws.{run_piece}
 use Rattle.outcome.specs.CallResult.{call_result, write_if_accepted, check_room}
 use Rattle.outcome.proofs.CallResultLaws.{WrittenCount, written_count, written_refusal}
 use Rattle.outcome.proofs.Laws.{check_accepted, check_refused, first_left, first_right}
-use Rattle.outcome.specs.Outcome.{reported_outcome, check, first}
-use Rattle.outcome.specs.declared.Outcome.TheVariants.{Count, Refused as RefusedBy}
+use Rattle.outcome.specs.Outcome.{reported_outcome, check, first, Accepted, Status}
 use Rattle.outcome.specs.declared.Refusal.{Refusal}
 use Rattle.outcome.specs.declared.Refusal.TheVariants.{BufferTooShort, OutsideTable}
-use Rattle.outcome.specs.declared.Status.{Status}
-use Rattle.outcome.specs.declared.Status.TheVariants.{Accepted, Refused}
 use Rattle.figures.proofs.FigureLaws.{length_figure, figure_back}
 use Rattle.figures.specs.Figures.{u16_kind, figure_at}
 use Rattle.casefile.specs.Case.{Case}
@@ -68,7 +65,7 @@ module _ (input out : List ℕ) (c : Case) (read : decode input ≡ accepted c) 
   call_is = rw read (soundings_answered reference_tank_entries (answer_of (accepted c)) out room answered)
 
   -- 10 comes only if some answer is outside the table
-  pub refused_outside_table : (soundings_result input out).outcome ≡ reported_outcome (RefusedBy OutsideTable) → OutsideCase c
+  pub refused_outside_table : (soundings_result input out).outcome ≡ reported_outcome (Err OutsideTable) → OutsideCase c
   refused_outside_table e =
       let t = written_refusal (table_status reference_tank_entries D' (answers c good)) _ out OutsideTable (ap (λ w. w.outcome) call_is ∙ e) in
       let f = all_fails (inside reference_tank_entries D') (pos 0) (answers c good) (check_refused _ OutsideTable t) in
@@ -76,11 +73,11 @@ module _ (input out : List ℕ) (c : Case) (read : decode input ≡ accepted c) 
       record { tank = f.place; is_tank = l; outside = not_inside D' (case_answer c f.place) (rw (answer_at c good f.place l) at f.fails) }
 
   -- and then it does
-  pub outside_table_refused : OutsideCase c → (soundings_result input out).outcome ≡ reported_outcome (RefusedBy OutsideTable)
+  pub outside_table_refused : OutsideCase c → (soundings_result input out).outcome ≡ reported_outcome (Err OutsideTable)
   outside_table_refused w = rw (← call_is) (go (all_are_inside reference_tank_entries D' (answers c good)) refl)
     where
       go : (b : Bool) → all_are_inside reference_tank_entries D' (answers c good) ≡ b
-          → (write_if_accepted (table_status reference_tank_entries D' (answers c good)) (depth_bytes reference_tank_entries D' (answers c good)) out).outcome ≡ reported_outcome (RefusedBy OutsideTable)
+          → (write_if_accepted (table_status reference_tank_entries D' (answers c good)) (depth_bytes reference_tank_entries D' (answers c good)) out).outcome ≡ reported_outcome (Err OutsideTable)
       go true q =
           absurd (outside_not D' (case_answer c w.tank) w.outside (rw (answer_at c good w.tank w.is_tank) at (inside_at reference_usable D' (answers c good) q w.tank)))
       go false q = rw q
@@ -88,7 +85,7 @@ module _ (input out : List ℕ) (c : Case) (read : decode input ≡ accepted c) 
 -- ---- refusals 2 to 9: with room for both, those of a record
 
 pub refused_as_recorded : (input left out : List ℕ) (r : Refusal) → longest_record ≤ length left → soundings_room ≤ length out
-    → (judge_result input left).outcome ≡ reported_outcome (RefusedBy r) → call_result (RefusedBy r) out ≡ soundings_result input out
+    → (judge_result input left).outcome ≡ reported_outcome (Err r) → call_result (Err r) out ≡ soundings_result input out
 unfolding judge_result record_result soundings_result
 refused_as_recorded input left out r h k e =
     let x = answer_of (decode input) in
@@ -97,7 +94,7 @@ refused_as_recorded input left out r h k e =
 
 -- ---- a count
 
-module _ (input out : List ℕ) (m : ℕ) (e : (soundings_result input out).outcome ≡ reported_outcome (Count m)) where
+module _ (input out : List ℕ) (m : ℕ) (e : (soundings_result input out).outcome ≡ reported_outcome (Ok m)) where
   abbrev x : Answer
   x = answer_of (decode input)
 

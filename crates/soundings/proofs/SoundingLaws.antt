@@ -1,5 +1,5 @@
 -- The definition of soundings as the code meets it: an answer inside a table can be looked up there, and each way through the call. Assumes nothing.
-use Rattle.std.specs.Prelude.{ℕ, ◌*◌, ◌^◌, ◌<◌, ◌≤◌, ℤ, pos, negsuc, length, get_or, take, true, false, List, ◌≡◌}
+use Rattle.std.specs.Prelude.{ℕ, ◌*◌, ◌^◌, ◌<◌, ◌≤◌, ℤ, pos, negsuc, length, get_or, take, true, false, List, ◌≡◌, Err, Ok}
 use Rattle.std.proofs.Common.{le-leb, arith}
 use Rattle.std.proofs.Math.Seq.{take-length}
 use Rattle.std.proofs.lemmas.Bool.{false≢true}
@@ -9,10 +9,8 @@ use Rattle.buffer.specs.Buffer.{onto, run}
 use Rattle.buffer.specs.RunLaws.{length_run, joined_run}
 use Rattle.outcome.specs.CallResult.{call_result, write_if_accepted}
 use Rattle.outcome.proofs.CallResultLaws.{written_short, written_refused}
-use Rattle.outcome.specs.declared.Outcome.TheVariants.{Count, Refused as RefusedBy}
 use Rattle.outcome.specs.declared.Refusal.{Refusal}
 use Rattle.outcome.specs.declared.Refusal.TheVariants.{BufferTooShort, OutsideTable}
-use Rattle.outcome.specs.declared.Status.TheVariants.{Accepted, Refused}
 use Rattle.bigendian.specs.Number.{size}
 use Rattle.figures.proofs.FigureLaws.{length_figure}
 use Rattle.figures.specs.Figures.{u16_kind, figure_bytes}
@@ -22,6 +20,7 @@ use Rattle.sounding_table.specs.DepthLaws.{depth_below}
 use Rattle.sounding_table.specs.Table.{reference_tank_entries}
 use Rattle.sounding_table.specs.TableLaws.{reference_length, reference_entry_lem, reference_ordered}
 use Rattle.soundings.specs.Soundings.{soundings_room, all_are_inside, depth_bytes, table_status, soundings_of, SoundingTable}
+use Rattle.outcome.specs.Outcome.{Accepted}
 
 -- ---- an answer that is inside a table
 
@@ -55,19 +54,19 @@ module _ (table : List ℕ) (D : ℕ) (Y : List ℤ) where
 -- ---- each way through the code
 
 module _ (table : List ℕ) (D : ℕ) (Y : List ℤ) (out : List ℕ) where
-  pub written_outside : all_are_inside table D Y ≡ false → call_result (RefusedBy OutsideTable) out ≡ write_if_accepted (table_status table D Y) (depth_bytes table D Y) out
+  pub written_outside : all_are_inside table D Y ≡ false → call_result (Err OutsideTable) out ≡ write_if_accepted (table_status table D Y) (depth_bytes table D Y) out
   written_outside e = rw e
 
   pub written_inside : {exit : List ℕ} → all_are_inside table D Y ≡ true → exit ≡ onto (depth_bytes table D Y) out
-      → call_result (Count (size w16 * length Y)) exit ≡ write_if_accepted (table_status table D Y) (depth_bytes table D Y) out
+      → call_result (Ok (size w16 * length Y)) exit ≡ write_if_accepted (table_status table D Y) (depth_bytes table D Y) out
   written_inside e w = rw (e, w, ← (length_depths table D Y))
 
 module _ (table : List ℕ) (x : Answer) (out : List ℕ) where
-  pub soundings_short : length out < soundings_room → call_result (RefusedBy BufferTooShort) out ≡ soundings_of table x out
+  pub soundings_short : length out < soundings_room → call_result (Err BufferTooShort) out ≡ soundings_of table x out
   unfolding soundings_of
   soundings_short h = written_short soundings_room _ _ out h
 
-  pub soundings_refused : (r : Refusal) → soundings_room ≤ length out → x.solution.status ≡ Refused r → call_result (RefusedBy r) out ≡ soundings_of table x out
+  pub soundings_refused : (r : Refusal) → soundings_room ≤ length out → x.solution.status ≡ Err r → call_result (Err r) out ≡ soundings_of table x out
   unfolding soundings_of
   soundings_refused r h e = written_refused soundings_room _ _ out r h (rw e)
 

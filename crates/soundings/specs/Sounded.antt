@@ -1,13 +1,13 @@
 -- Definitions only.
 -- What soundings say, over the bytes that the call left: each tank's depth in the reference tank, and what refusal 10 means.
 use Rattle.std.specs.Prelude.{ℕ, ◌+◌, ◌*◌, ◌<◌, ◌≤◌, ℤ, pos, ◌*ℤ◌, get_or, drop, ◌≤ℤ◌, ◌<ℤ◌, List, ◌⊎◌, ◌↔◌, ◌≡◌}
-use Rattle.outcome.specs.declared.Status.TheVariants.{Accepted}
 use Rattle.figures.specs.Figures.{u16_kind, figure_at}
 use Rattle.casefile.specs.Case.{Case}
 use Rattle.casefile.specs.Decode.{accepted, decode}
 use Rattle.solver.specs.Claims.{KeptOfRounds}
 use Rattle.ballast.specs.Call.{scale_of, system_of, case_solution}
 use Rattle.sounding_table.specs.Table.{reference_entry}
+use Rattle.outcome.specs.Outcome.{Accepted}
 
 -- the depth that bytes hold of tank j, from 0
 abbrev pub sounded_depth : List ℕ → ℕ → ℕ

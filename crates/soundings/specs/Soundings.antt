@@ -5,9 +5,8 @@ use Rattle.std.specs.Int.{w16}
 use Rattle.limits.specs.Limits.{most_tanks}
 use Rattle.buffer.specs.Buffer.{joined, all}
 use Rattle.outcome.specs.CallResult.{CallResult, write_if_accepted, check_room}
-use Rattle.outcome.specs.Outcome.{check, first}
+use Rattle.outcome.specs.Outcome.{check, first, Status}
 use Rattle.outcome.specs.declared.Refusal.TheVariants.{OutsideTable}
-use Rattle.outcome.specs.declared.Status.{Status}
 use Rattle.bigendian.specs.Number.{size}
 use Rattle.figures.specs.Figures.{u16_kind, figure_bytes}
 use Rattle.casefile.specs.Decode.{decode}

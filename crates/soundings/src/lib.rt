@@ -8,74 +8,68 @@ ghost use Rattle.outcome.specs.CallResult.{call_result, write_if_accepted};
 ghost use Rattle.bigendian.specs.Number.{size};
 ghost use Rattle.soundings.specs.Soundings.{all_are_inside, depth_bytes, table_status, soundings_result, SoundingTable, DepthsFit};
 
-use bigendian::SIZE_16;
+use bigendian::BigEndian;
+use judge::ZERO_TRIAL;
 use limits::MOST_TANKS;
-use outcome::{Outcome, Refusal, Status};
+use outcome::Refusal;
+
+// A depth is a number of 16 bits.
+const DEPTH_SIZE: usize = u16::SIZE;
 
 // The shortest buffer for depths: two bytes for each of eight tanks.
-pub const SOUNDINGS_ROOM: usize = SIZE_16 * MOST_TANKS;
+pub const SOUNDINGS_ROOM: usize = DEPTH_SIZE * MOST_TANKS;
 
 // Whether each answer is inside the table.
-fn all_inside<'a>(table: &'a [u32], scale: u16, answer: &'a [i32]) -> bool
+fn all_inside(table: &[u32], scale: u16, answer: &[i32]) -> bool
     requires { 0 < length table.now }
     ensures { result ≡ all_are_inside table.now scale answer.now }
 {
-    let mut fine = true;
-    let mut j = 0;
-    while j < answer.len() {
-        fine = fine & sounding_table::inside(table, scale, answer[j]);
-        j += 1;
-    }
-    fine
+    answer
+        .iter()
+        .all(|figure| sounding_table::inside(table, scale, *figure))
 }
 
 // The depths of answers that are inside the table, over the front of out.
-fn write_depths<'a>(table: &'a [u32], scale: u16, answer: &'a [i32], out: &mut [u8])
+fn write_depths(table: &[u32], scale: u16, answer: &[i32], out: &mut [u8])
     requires { DepthsFit table.now scale answer.now out.old }
     ensures { out.new ≡ onto (depth_bytes table.now scale answer.now) out.old }
 {
-    let mut j = 0;
-    let mut at = 0;
-    while j < answer.len() {
-        let depth = sounding_table::depth(table, scale, answer[j]);
-        bigendian::write_u16(depth as u16, &mut out[at..]);
-        j += 1;
-        at += SIZE_16;
+    for (j, figure) in answer.iter().enumerate() {
+        let depth = sounding_table::depth(table, scale, *figure);
+        (depth as u16).write(&mut out[j * DEPTH_SIZE..]);
     }
 }
 
 // The depths of the answers over the front of out, and how many bytes they have; or refusal 10, with out as it was.
-fn write_soundings<'a>(table: &'a [u32], scale: u16, answer: &'a [i32], out: &mut [u8]) -> Outcome
+fn write_soundings(
+    table: &[u32],
+    scale: u16,
+    answer: &[i32],
+    out: &mut [u8],
+) -> Result<usize, Refusal>
     requires { (SoundingTable table.now) × (size w16 * length answer.now ≤ length out.old) }
     ensures { call_result result out.new ≡ write_if_accepted (table_status table.now scale answer.now) (depth_bytes table.now scale answer.now) out.old }
 {
     if !all_inside(table, scale, answer) {
-        return Outcome::Refused(Refusal::OutsideTable);
+        return Err(Refusal::OutsideTable);
     }
     write_depths(table, scale, answer, out);
-    Outcome::Count(SIZE_16 * answer.len())
+    Ok(DEPTH_SIZE * answer.len())
 }
 
 // The soundings of any bytes as a case: two bytes for each tank's depth in the reference tank, tank 1 first, over the front of out, whose bytes beyond them
 // stay as they were, and the count 2n. Refuses with 1 an out shorter than SOUNDINGS_ROOM, then with 2 to 9 as a record, then with 10 where an answer is
 // negative or above the table's last entry; no byte of out has then changed. It writes no record.
-pub fn soundings(input: &[u8], out: &mut [u8]) -> Outcome
+pub fn soundings(input: &[u8], out: &mut [u8]) -> Result<usize, Refusal>
     ensures { call_result result out.new ≡ soundings_result input.now out.old }
 {
     if out.len() < SOUNDINGS_ROOM {
-        return Outcome::Refused(Refusal::BufferTooShort);
+        return Err(Refusal::BufferTooShort);
     }
-    let mut trial = [0i32; MOST_TANKS];
-    let mut residuals = [0i64; MOST_TANKS];
-    let mut reaches = [0u64; MOST_TANKS];
-    let answer = ballast::answer_case(input, &mut trial, &mut residuals, &mut reaches);
-    let kept = answer.kept;
-    let status = kept.status;
-    if let Status::Refused(refusal) = status {
-        return Outcome::Refused(refusal);
-    }
+    let mut trial = ZERO_TRIAL;
+    let answer = ballast::answer_case(input, &mut trial);
+    answer.kept?;
     let table = sounding_table::reference_tank();
     let scale = integers::power_of_ten(answer.exponent);
-    let n = answer.n;
-    write_soundings(&table, scale, &trial[..n], out)
+    write_soundings(&table, scale, &trial.figures[..answer.n], out)
 }

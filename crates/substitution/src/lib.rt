@@ -20,7 +20,7 @@ fn reduced_entry(row: &[i64; MOST_TANKS], z: &[i64; MOST_TANKS], i: usize) -> i6
 {
     let mut s = z[i];
     for j in 0..i {
-        s = s - rounded_by_scale(row[j] * z[j]);
+        s -= rounded_by_scale(row[j] * z[j]);
     }
     s
 }
@@ -32,7 +32,7 @@ fn sum_above(row: &[i64; MOST_TANKS], d: &[i64; MOST_TANKS], i: usize, n: usize)
 {
     let mut s: i64 = 0;
     for j in i + 1..n {
-        s = s + row[j] * d[j];
+        s += row[j] * d[j];
     }
     s
 }
@@ -45,6 +45,8 @@ fn correction_of(row: &[i64; MOST_TANKS], z: i64, d: &[i64; MOST_TANKS], i: usiz
     let above = sum_above(row, d, i, n);
     rounded_quotient(WORKING_SCALE * z - above, row[i])
 }
+
+// The passes are no methods of `Eliminated`: they read its working matrix alone, and that type's crate is below this one.
 
 // Every entry of the right-hand side reduced by the multipliers, from the top, in place. Entries past the rows stay as they are.
 pub fn forward_pass(working: &[[i64; MOST_TANKS]; MOST_TANKS], z: &mut [i64; MOST_TANKS], n: usize)
@@ -67,15 +69,12 @@ pub fn backward_pass(
     ensures { corrections result d.new ≡ backward working.now z.now n }
 {
     *d = [0i64; MOST_TANKS];
-    let mut left = n;
-    while 0 < left {
-        let i = left - 1;
+    for i in (0..n).rev() {
         let v = correction_of(&working[i], z[i], d, i, n);
         if CORRECTION_LIMIT < magnitude(v) {
             return false;
         }
         d[i] = v;
-        left = i;
     }
     true
 }

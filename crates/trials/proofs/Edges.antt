@@ -1,10 +1,9 @@
 -- The printed case and its record, byte for byte, and those trials of document 01, "Trials at the edges", that are about bytes. Assumes nothing.
-use Rattle.std.specs.Prelude.{ℕ, pos, replicate, ◌≡◌, refl}
+use Rattle.std.specs.Prelude.{ℕ, pos, replicate, ◌≡◌, refl, Ok}
 use mathlib.Core.List.{List, [], ◌∷◌, map, Memᴰ}
 use Rattle.buffer.specs.Buffer.{onto}
 use Rattle.outcome.specs.CallResult.{call_result}
 use Rattle.outcome.specs.Outcome.{reported_outcome}
-use Rattle.outcome.specs.declared.Outcome.TheVariants.{Count}
 use Rattle.casefile.specs.Case.{Case, case_of_lists}
 use Rattle.casefile.proofs.Examples.{printed_bytes, nine_tanks, least_coefficient}
 use Rattle.casefile.specs.Layout.{encode}
@@ -33,7 +32,7 @@ pub printed_case_lem : encode printed_trial.case ≡ printed_bytes
 unfolding found
 printed_case_lem = refl
 
-pub printed_record_lem : judge_result printed_bytes (lent longest_record) ≡ call_result (Count 40) (onto printed_record (lent longest_record))
+pub printed_record_lem : judge_result printed_bytes (lent longest_record) ≡ call_result (Ok 40) (onto printed_record (lent longest_record))
 unfolding found
 printed_record_lem = refl
 
@@ -86,6 +85,6 @@ each_edge_refused e m = agree edge_outcome edge_refusal m edges_refused
 abbrev pub eight_tanks : Case
 eight_tanks = case_of_lists 8 0 0 (replicate 64 (pos 0)) (replicate 64 0) (replicate 8 (pos 0)) (replicate 8 0) (replicate 8 (pos 0))
 
-pub eight_tanks_lem : (judge_result (encode eight_tanks) (lent longest_record)).outcome ≡ reported_outcome (Count 180)
+pub eight_tanks_lem : (judge_result (encode eight_tanks) (lent longest_record)).outcome ≡ reported_outcome (Ok 180)
 unfolding found
 eight_tanks_lem = refl

@@ -4,7 +4,6 @@
 ghost use Rattle.std.specs.Prelude.{◌<◌, ◌≤◌, length, take, IfOk};
 ghost use Rattle.std.specs.Io.KnownBytes.{Consumes, IsAtEnd};
 
-use outcome::Outcome;
 use std::io;
 use std::io::{Read, Write};
 
@@ -16,6 +15,7 @@ fn read_full<R: Read>(input: &mut R, buf: &mut [u8]) -> io::Result<usize>
     ensures bytes { IfOk result (λ n. Consumes (R.remaining input.old) (R.remaining input.new) (take n buf.new)) }
     ensures whole { IfOk result (λ n. n < length buf.new → IsAtEnd (R.remaining input.new)) }
 {
+    // the library's read_exact fails at an early end, and its read_to_end needs memory
     let mut done = 0;
     while done < buf.len() {
         let n = input.read(&mut buf[done..])?;
@@ -33,7 +33,7 @@ fn main(rt: HostRuntime) -> io::Result<()> {
     let mut text = [0u8; report::TEXT_ROOM];
     let outcome = verdict_text::verdict_text(&input[..n], &mut text);
     // the text has its room, so there is always a count
-    if let Outcome::Count(m) = outcome {
+    if let Ok(m) = outcome {
         rt.stdout().write_all(&text[..m])?;
     }
     Ok(())

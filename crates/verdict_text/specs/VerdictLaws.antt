@@ -1,18 +1,14 @@
 -- Every input has its whole text, which fits the room and is not empty; and the call's definition as the code meets it. Assumes nothing.
-use Rattle.std.specs.Prelude.{ℕ, ◌^◌, ◌≤◌, ◌<◌, length, List, ◌≡◌}
+use Rattle.std.specs.Prelude.{ℕ, ◌^◌, ◌≤◌, ◌<◌, length, List, ◌≡◌, Err, Ok}
 use Rattle.std.proofs.Common.{le-leb, lit≤, lit<, sym, ap, ◌∙◌, lt_of_lt_of_le, lt_of_le_of_lt, arith}
 use Rattle.std.proofs.Math.Path.{refl}
 use Rattle.buffer.specs.Buffer.{onto, Room, Wrote}
 use Rattle.buffer.specs.Laws.{holds}
 use Rattle.outcome.specs.CallResult.{check_room, call_result}
 use Rattle.outcome.proofs.CallResultLaws.{written_count, written_short, written_whole}
-use Rattle.outcome.specs.Outcome.{number_of, reported_outcome}
-use Rattle.outcome.specs.declared.Outcome.{Outcome}
-use Rattle.outcome.specs.declared.Outcome.TheVariants.{Count, Refused as RefusedBy}
+use Rattle.outcome.specs.Outcome.{number_of, reported_outcome, Accepted, Outcome, Status}
 use Rattle.outcome.specs.declared.Refusal.{Refusal}
 use Rattle.outcome.specs.declared.Refusal.TheVariants.{BufferTooShort, FieldMissing, WrongTag, WrongLength, ValueCutShort, OutsideLimits, TrailingBytes, ZeroPivot, OutsideRange, OutsideTable, WrongMatrixHeader, WrongMatrixEntry}
-use Rattle.outcome.specs.declared.Status.{Status}
-use Rattle.outcome.specs.declared.Status.TheVariants.{Accepted, Refused}
 use Rattle.casefile.specs.Decode.{decode}
 use Rattle.ballast.proofs.AnswerBounds.{AnswerBounded, answer_bounded}
 use Rattle.ballast.specs.Call.{Answer, answer_of}
@@ -54,12 +50,12 @@ answer_fits x b =
 
 -- by the answer's status
 short_by : (t : Status) (x : Answer) → (t ≡ Accepted → AnswerBounded x) → length (text_by t x) ≤ text_room
-short_by Accepted x b = length_text _ (answer_fits x (b refl))
-short_by (Refused r) x b = refusal_short r
+short_by (Ok _) x b = length_text _ (answer_fits x (b refl))
+short_by (Err r) x b = refusal_short r
 
 some_by : (t : Status) (x : Answer) → 0 < length (text_by t x)
-some_by Accepted x = some_text (report x.n x.exponent x.solution.rounds x.solution.trial x.solution.judgement)
-some_by (Refused r) x = some_refusal (number_of r)
+some_by (Ok _) x = some_text (report x.n x.exponent x.solution.rounds x.solution.trial x.solution.judgement)
+some_by (Err r) x = some_refusal (number_of r)
 
 module _ (input : List ℕ) where
   abbrev answer : Answer
@@ -79,17 +75,17 @@ module _ (input : List ℕ) where
 
 module _ (input out : List ℕ) where
   -- with the room, there is a count, and it is the whole text's
-  pub text_whole : text_room ≤ length out → text_call input out ≡ call_result (Count (length (printed_text input))) (onto (printed_text input) out)
+  pub text_whole : text_room ≤ length out → text_call input out ≡ call_result (Ok (length (printed_text input))) (onto (printed_text input) out)
   unfolding text_call
   text_whole h = rw (le-leb text_room (length out) h)
 
   -- every count is within the room
-  pub text_count_le : (m : ℕ) → (text_call input out).outcome ≡ reported_outcome (Count m) → m ≤ text_room
+  pub text_count_le : (m : ℕ) → (text_call input out).outcome ≡ reported_outcome (Ok m) → m ≤ text_room
   unfolding text_call
   text_count_le m e = rw (written_count (check_room text_room (length out) Accepted) (printed_text input) out m e).count (printed_fits input)
 
 -- a count's text lies within the buffer
-pub text_inside : (input out exit : List ℕ) (o : Outcome) (m : ℕ) → call_result o exit ≡ text_call input out → o ≡ Count m → m ≤ length exit
+pub text_inside : (input out exit : List ℕ) (o : Outcome) (m : ℕ) → call_result o exit ≡ text_call input out → o ≡ Ok m → m ≤ length exit
 unfolding text_call
 text_inside input out exit o m p e =
     let f = written_count (check_room text_room (length out) Accepted) (printed_text input) out m (ap (λ w. w.outcome) (sym p) ∙ ap reported_outcome e) in
@@ -98,17 +94,17 @@ text_inside input out exit o m p e =
 -- ---- as the code meets it
 
 module _ (input out : List ℕ) where
-  pub text_short : length out < text_room → call_result (RefusedBy BufferTooShort) out ≡ text_call input out
+  pub text_short : length out < text_room → call_result (Err BufferTooShort) out ≡ text_call input out
   unfolding text_call
   text_short h = written_short text_room Accepted (printed_text input) out h
 
-  pub text_written : {t exit : List ℕ} {m : ℕ} → text_room ≤ length out → t ≡ printed_text input → Wrote t 0 out m exit → call_result (Count m) exit ≡ text_call input out
+  pub text_written : {t exit : List ℕ} {m : ℕ} → text_room ≤ length out → t ≡ printed_text input → Wrote t 0 out m exit → call_result (Ok m) exit ≡ text_call input out
   unfolding text_call
   text_written h e w = written_whole text_room Accepted (printed_text input) out h refl (rw e at w)
 
 module _ (input : List ℕ) (x : Answer) (same : x ≡ answer_of (decode input)) where
   -- a refusal's line
-  module _ (r : Refusal) (t : x.solution.status ≡ Refused r) (k : ℕ) (e : k ≡ number_of r) where
+  module _ (r : Refusal) (t : x.solution.status ≡ Err r) (k : ℕ) (e : k ≡ number_of r) where
     pub refusal_printed : refusal_text k ≡ printed_text input
     unfolding printed_text text_of
     refusal_printed = rw (← same, t, e)

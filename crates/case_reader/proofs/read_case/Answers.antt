@@ -1,12 +1,11 @@
 -- `case_reader::read_case` meets its contract: a refusal of the fields clears the lists, and without one they hold the case.
 -- Assumes nothing.
-use borrow.Author.Rules.{rules}
+use mathlib.Core.Path.{sym, ◌∙◌}
 use Rattle.case_reader.proofs.Whole.{refused_whole, accepted_whole}
 use Rattle.case_reader.proofs.read_case.Goals as goal
 
-pub returns-in-Refused : goal.returns-in-Refused
-returns-in-Refused c =
-    refused_whole _ _ _ _ c.read_fields-head.ensures _ c.in-Refused.is _ _ c.refused.ensures
+pub returns-then-is_err : goal.returns-then-is_err
+returns-then-is_err c = refused_whole _ _ _ _ (sym c.is_err.ensures.value ∙ c.if-is_err.true) c.read_fields-read.ensures
 
-pub returns : goal.returns
-returns c = accepted_whole _ _ _ _ c.read_fields-head.ensures c.in_default.is
+pub returns-else-is_err : goal.returns-else-is_err
+returns-else-is_err c = accepted_whole _ _ _ _ (sym c.is_err.ensures.value ∙ c.if-is_err.false) c.read_fields-read.ensures

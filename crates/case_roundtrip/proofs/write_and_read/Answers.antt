@@ -1,37 +1,28 @@
 -- `case_roundtrip::write_and_read` meets its contract: by the law of what was written, over the two contracts.
 -- Assumes nothing.
-use borrow.Author.Rules.{rules}
+use Prim.Native.Nat.{◌≤◌}
+use lib.ListN.{length}
 use lib.Seq.{length-take-le}
-use mathlib.Core.Path.{sym}
+use mathlib.Core.Path.{◌≡◌}
 use native.Mathlib.Omega.{arith}
-use Rattle.casefile.specs.Case.{Case, case_of_lists}
+use Rattle.std.proofs.lemmas.Grind.{common_steps}
+use Rattle.std.specs.Prelude.{Err}
+use Rattle.case_writer.specs.Given.{given}
 use Rattle.case_roundtrip.proofs.Trips.{fits, is_read, is_refused}
 use Rattle.case_roundtrip.proofs.write_and_read.Goals as goal
 
 pub slice_bounds-read_stored-end : goal.slice_bounds-read_stored-end
-slice_bounds-read_stored-end c =
-    let case : Case = let a = c.args in
-    case_of_lists a.n a.exponent a.rounds a.coefficients.now a.tolerances.now a.right_sides.now a.right_tolerances.now a.trial.now in
-    let k = c in
-    omega (arith, fits case c.args.out.now k.write_case-written.result k.write_case-written.ensures _ c.in-Count.is)
+slice_bounds-read_stored-end c = omega (arith, fits (given c.args.case) c.args.out.now _ c.in_ok-m.ensures)
 
-pub returns-in-Count : goal.returns-in-Count
-returns-in-Count c =
-    let case : Case = let a = c.args in
-    case_of_lists a.n a.exponent a.rounds a.coefficients.now a.tolerances.now a.right_sides.now a.right_tolerances.now a.trial.now in
-    let k = c in
-    is_read case c.args.out.now k.write_case-written.result k.write_case-written.ensures _ c.in-Count.is _ c.read_stored.ensures
+pub slice_bounds-read_stored-end-2 : goal.slice_bounds-read_stored-end-2
+slice_bounds-read_stored-end-2 c =
+    let f : c.in_ok-m.m ≤ length c.write_case.new.out = fits (given c.args.case) c.args.out.now _ c.in_ok-m.ensures in
+    omega (arith, length-take-le c.in_ok-m.m c.write_case.new.out f)
 
-pub returns-in-Refused : goal.returns-in-Refused
-returns-in-Refused c =
-    let case : Case = let a = c.args in
-    case_of_lists a.n a.exponent a.rounds a.coefficients.now a.tolerances.now a.right_sides.now a.right_tolerances.now a.trial.now in
-    let k = c in
-    is_refused case c.args.out.now k.write_case-written.result k.write_case-written.ensures _ c.in-Refused.is _ c.refused.ensures
+pub returns-in_err-m : goal.returns-in_err-m
+returns-in_err-m c =
+    let h : c.from_residual.result ≡ Err c.in_err-m.field-0.0 = grind (arith, common_steps) in
+    is_refused (given c.args.case) c.args.out.now _ c.in_err-m.ensures h
 
-pub slice_bounds-read_stored-end-in-Count : goal.slice_bounds-read_stored-end-in-Count
-slice_bounds-read_stored-end-in-Count c =
-    let case : Case = let a = c.args in
-    case_of_lists a.n a.exponent a.rounds a.coefficients.now a.tolerances.now a.right_sides.now a.right_tolerances.now a.trial.now in
-    let k = c in
-    sym (length-take-le _ _ (omega (arith, fits case c.args.out.now k.write_case-written.result k.write_case-written.ensures _ c.in-Count.is)))
+pub returns : goal.returns
+returns c = is_read (given c.args.case) c.args.out.now _ c.in_ok-m.ensures c.read_stored.ensures

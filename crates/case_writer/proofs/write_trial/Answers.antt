@@ -1,7 +1,6 @@
 -- `case_writer::write_trial` meets its contract, by whether the case brings a trial.
 -- Assumes nothing.
 use Prim.Native.Nat.{ℕ}
-use borrow.Author.Rules.{rules}
 use lib.ListN.{length}
 use mathlib.Core.List.{append-nil}
 use mathlib.Core.Path.{◌≡◌, subst}
@@ -10,17 +9,13 @@ use Rattle.figures.proofs.FigureLaws.{length_spread}
 use Rattle.figures.specs.Figures.{spread}
 use Rattle.fields.proofs.FieldLaws.{field_written}
 use Rattle.casefile.specs.Layout.{trial_tag, trial_kind}
-use Rattle.casefile.proofs.TailLaws.{no_trial_given}
 use Rattle.case_writer.specs.Room.{TrialRoom}
 use Rattle.case_writer.proofs.write_trial.Goals as goal
 
-pub returns-then-rounds-eq0 : goal.returns-then-rounds-eq0
-returns-then-rounds-eq0 c =
-    let given : TrialRoom c.args.out.now 0 c.args.n c.args.y.now = subst (λ (r : ℕ). TrialRoom c.args.out.now r c.args.n c.args.y.now) c.if-rounds-eq0.true c.requires in
-    let w = c in
-    let h = w in
-    let k = c in
+pub returns-then-head-eq0 : goal.returns-then-head-eq0
+returns-then-head-eq0 c =
     let a = c.args in
-    let v = spread trial_kind a.y.now in
-    let l : length v ≡ k.tail_places-tail.result.trial_len = omega (arith, length_spread trial_kind a.y.now, given, k.tail_places-tail.ensures) in
-    rw k.if-rounds-eq0.true (simp append-nil (field_written trial_tag _ v a.out.now _ l h.write_header.ensures w.write_i32s.ensures))
+    let room : TrialRoom a.out.now 0 a.head.n a.trial.now = subst (λ (r : ℕ). TrialRoom a.out.now r a.head.n a.trial.now) c.if-head-eq0.true c.requires in
+    let v = spread trial_kind a.trial.now in
+    let l : length v ≡ c.tail_places-tail.result.trial_len = omega (arith, length_spread trial_kind a.trial.now, room, c.tail_places-tail.ensures) in
+    rw c.if-head-eq0.true (simp append-nil (field_written trial_tag _ v a.out.now _ l c.write_header.ensures c.write.ensures))

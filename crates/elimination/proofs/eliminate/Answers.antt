@@ -3,6 +3,7 @@
 use Prim.Native.Nat.{ℕ, ◌+◌, ◌<◌, ◌≤◌}
 use lib.IntN.{ℤ, nat_abs}
 use mathlib.Core.List.{List, []}
+use Rattle.std.proofs.Common.{rules}
 use mathlib.Core.Path.{◌≡◌, refl, sym, ap, ◌∙◌}
 use mir.Facts.{to_z-of_z}
 use native.Mathlib.Omega.{arith}
@@ -10,18 +11,16 @@ use Rattle.limits.specs.Limits.{most_tanks}
 use Rattle.elimination.proofs.Bounds.{last_step}
 use Rattle.elimination.specs.Conditions.{Pivoted, StartRows}
 use Rattle.elimination.proofs.Factors.{kept, kept_pivoted}
-use Rattle.elimination.proofs.Laws.{exchange_same}
+use Rattle.elimination.proofs.Laws.{exchange_same, swapped}
 use Rattle.elimination.specs.Matrix.{at}
-use Rattle.elimination.specs.Outcome.{outcome, Eliminates}
+use Rattle.elimination.specs.Outcome.{Elimination, outcome, Eliminates}
 use Rattle.elimination.proofs.OutcomeLaws.{steps_zero_pivot, steps_complete}
 use Rattle.elimination.proofs.Pivot.{pivot_best, pivot_up, pivot_stay, pivot_done}
 use Rattle.elimination.proofs.Runs.{after_none, after_more, advanced_step, stays}
 use Rattle.elimination.specs.Steps.{working_matrix, pivot_row, exchange, eliminated_below, Run, largest, next_run, after_steps, eliminated}
-use Rattle.elimination.specs.declared.Elimination.{Elimination}
 use Rattle.elimination.proofs.eliminate.Invariants.{Made, Searched, state}
 use Rattle.elimination.proofs.eliminate.Goals as goal
 use Rattle.elimination.proofs.eliminate.Goals.{then-largest-size, else-largest-size, then-k-n, else-k-n}
-use Rattle.elimination.proofs.eliminate.Goals.{else-steps-test, then-steps-test+then-i-n+then-largest-eq0}
 use mir.Syntax.{w64}
 use mir.Val.{SFits}
 
@@ -91,65 +90,62 @@ ready : {n k : ℕ} {a : List ℤ} {w w₀ : List (List ℤ)} {places : List ℕ
 ready {n} {k} {a} {w} {w₀} {places} h8 f m h l =
     kept_pivoted n (state w places k) h8 h (rw m.is at (kept n a h8 (rw f.are at f.in_bound) k m.few)) l
 
-pub fill_rows-requires : goal.fill_rows-requires
-fill_rows-requires c = (c.requires, refl)
-
 pub steps-init : goal.steps-init
-steps-init c =
-    let s = c in
-    record { few = omega arith; is = after_none s.args.n s.args.coefficients.now ∙ rw (← c.fill_rows.ensures.are) }
+steps-init c = (
+  record { few = omega arith; is = after_none c.args.n c.args.coefficients.now ∙ rw (← c.fill_rows.ensures.are) },
+  refl,
+)
 
 pub rows-init : goal.rows-init
 unfolding pivot_row
 rows-init c =
-    let f : SFits w64 (at c.steps.working c.steps.k c.steps.k) = record { sfits = omega arith } in
-    record {
-      some = omega arith;
-      inside = omega arith;
-      size_is = rw (to_z-of_z f) at c.magnitude-largest.ensures;
-      rest = refl;
-    }
+    let f : SFits w64 (at c.steps.eliminated.working c.steps.k c.steps.k) = record { sfits = omega arith } in (
+      record {
+        some = omega arith;
+        inside = omega arith;
+        size_is = rw (to_z-of_z f) at c.magnitude-largest.ensures;
+        rest = refl;
+      },
+      c.steps.invariant.1,
+    )
 
 pub rows-preserved : goal.rows-preserved
 rows-preserved c =
-    let f : SFits w64 (at c.steps.working c.rows.i c.steps.k) = record { sfits = omega arith } in
+    let f : SFits w64 (at c.steps.eliminated.working c.rows.i c.steps.k) = record { sfits = omega arith } in
     let e = rw (to_z-of_z f) at c.magnitude-size.ensures in
     elim c.if-largest-size.branch [
-      | then-largest-size w ↦ rw (w.pivot-is, w.largest-is) (searched_up c.rows.invariant (omega arith) e w.if-largest-size.true)
-      | else-largest-size w ↦ rw (w.pivot-is, w.largest-is) (searched_stay c.rows.invariant (omega arith) e w.if-largest-size.false)
+      | then-largest-size w ↦ rw (w.pivot-is, w.largest-is) (searched_up c.rows.invariant.0 (omega arith) e w.if-largest-size.true, c.rows.invariant.1)
+      | else-largest-size w ↦ rw (w.pivot-is, w.largest-is) (searched_stay c.rows.invariant.0 (omega arith) e w.if-largest-size.false, c.rows.invariant.1)
     ]
 
-pub step-requires : goal.step-requires
-step-requires c =
+pub step-eliminated-requires : goal.step-eliminated-requires
+step-eliminated-requires c =
     let n = c.args.n in
-    let w = c.steps.working in
+    let w = c.steps.eliminated.working in
     let k = c.steps.k in
-    let found : c.rows.pivot ≡ pivot_row w k n = pivot_is c.rows.invariant (omega arith) in
-    let nonzero : 0 < largest n (state w c.steps.order k) = omega (arith, size_largest c.rows.invariant (omega arith) c.steps.order) in
-    (omega arith, rw found (ready c.requires c.fill_rows.ensures c.steps.invariant (omega arith) nonzero))
+    let found : c.rows.pivot ≡ pivot_row w k n = pivot_is c.rows.invariant.0 (omega arith) in
+    let nonzero : 0 < largest n (state w c.steps.eliminated.order k) = omega (arith, size_largest c.rows.invariant.0 (omega arith) c.steps.eliminated.order) in
+    (omega arith, rw found (ready c.requires c.fill_rows.ensures c.steps.invariant.0 (omega arith) nonzero))
 
 pub steps-preserved : goal.steps-preserved
 steps-preserved c =
     let n = c.args.n in
-    let w = c.steps.working in
+    let w = c.steps.eliminated.working in
     let k = c.steps.k in
-    let found : c.rows.pivot ≡ pivot_row w k n = pivot_is c.rows.invariant (omega arith) in
-    let nonzero : 0 < largest n (state w c.steps.order k) = omega (arith, size_largest c.rows.invariant (omega arith) c.steps.order) in
+    let found : c.rows.pivot ≡ pivot_row w k n = pivot_is c.rows.invariant.0 (omega arith) in
+    let nonzero : 0 < largest n (state w c.steps.eliminated.order k) = omega (arith, size_largest c.rows.invariant.0 (omega arith) c.steps.eliminated.order) in
     elim c.if-k-n.branch [
-      | then-k-n t ↦ rw (t.working-is, t.order-is) (made_more c.steps.invariant (omega arith) nonzero found t.step.ensures t.exchange_places.ensures)
-      | else-k-n t ↦ rw (t.working-is, t.order-is) (made_last c.steps.invariant (omega arith) t.if-k-n.false nonzero)
+      | then-k-n t ↦
+          let moved = swapped 0 _ _ k c.rows.pivot t.swap.ensures.after (search rules) (search rules) in
+          rw t.eliminated-is (made_more c.steps.invariant.0 (omega arith) nonzero found t.step-eliminated.ensures moved, c.rows.invariant.1)
+      | else-k-n t ↦ rw t.eliminated-is (made_last c.steps.invariant.0 (omega arith) t.if-k-n.false nonzero, c.rows.invariant.1)
     ]
 
-pub returns-then-k-n-2 : goal.returns-then-k-n-2
-returns-then-k-n-2 c =
-    let whole : eliminated c.args.n c.args.coefficients.now ≡ state c.steps.working c.steps.order c.steps.k =
-    elim c.steps-test.branch [
-      | else-steps-test w ↦ all_made c.steps.invariant (omega arith)
-      | then-steps-test+then-i-n+then-largest-eq0 w ↦
-          zero_found c.steps.invariant (size_largest w.rows.invariant (omega arith) c.steps.order ∙ w.if-largest-eq0.true)
-    ] in
-    eliminates whole (sym (steps_zero_pivot _ _ c.if-k-n-2.true))
+pub returns-then-largest-eq0 : goal.returns-then-largest-eq0
+returns-then-largest-eq0 c =
+    eliminates (zero_found c.steps.invariant.0 (size_largest c.rows.invariant.0 (omega arith) c.steps.eliminated.order ∙ c.if-largest-eq0.true))
+    (sym (steps_zero_pivot _ _ (omega arith)))
 
-pub returns-else-k-n-2 : goal.returns-else-k-n-2
-returns-else-k-n-2 c =
-    eliminates (all_made c.steps.invariant c.if-k-n-2.false) (sym (steps_complete _ _ c.if-k-n-2.false))
+pub returns-after-steps : goal.returns-after-steps
+returns-after-steps c =
+    eliminates (all_made c.steps.invariant.0 c.steps-test.false) (c.steps.invariant.1 ∙ sym (steps_complete _ _ c.steps-test.false))

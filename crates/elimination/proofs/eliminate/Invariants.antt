@@ -3,6 +3,7 @@ use lib.IntN.{ℤ, nat_abs}
 use mathlib.Core.List.{List}
 use mathlib.Core.Path.{◌≡◌}
 use Rattle.elimination.specs.Matrix.{at}
+use Rattle.elimination.specs.Outcome.{complete}
 use Rattle.elimination.specs.Steps.{pivot_from, pivot_row, Run, after_steps}
 use Rattle.elimination.proofs.eliminate.Given as goal
 
@@ -21,13 +22,10 @@ pub record Searched (w : List (List ℤ)) (k n pivot size i : ℕ) : Type 0 wher
   pub rest : pivot_from w k pivot i (n - i) ≡ pivot_row w k n
 
 abbrev pub invariant-rows : goal.invariant-rows
-invariant-rows l = Searched l.working l.k l.n l.pivot l.largest l.i
+invariant-rows l = Searched l.eliminated.working l.k l.n l.pivot l.largest l.i × (l.outcome ≡ complete)
 
 abbrev pub decreases-rows : goal.decreases-rows
 decreases-rows l = l.n - l.i
 
 abbrev pub invariant-steps : goal.invariant-steps
-invariant-steps l = Made l.n l.coefficients l.working l.order l.k
-
-abbrev pub decreases-steps : goal.decreases-steps
-decreases-steps l = l.n - l.k
+invariant-steps l = Made l.n l.coefficients l.eliminated.working l.eliminated.order l.k × (l.outcome ≡ complete)

@@ -3,7 +3,8 @@
 use Rattle.std.specs.Prelude.{ℕ, ◌+◌, ◌-◌, ◌<◌, ℤ, pos, ◌*ℤ◌, ◌-ℤ◌, get_or, set, List, ◌≡◌}
 use Rattle.std.proofs.Common.{sym, ap, ◌∙◌, to_z-of_z, arith}
 use mir.Syntax.{w64}
-use mir.Val.{SFits, to_z, of_z}
+use mir.Val.{SFits}
+use Rattle.integers.specs.Signed.{read}
 use Rattle.integers.specs.Size.{sfits_size}
 use Rattle.integers.specs.TableLaws.{fill_next, fill_left, fill_none}
 use Rattle.integers.specs.Tables.{fill}
@@ -13,10 +14,6 @@ use Rattle.elimination.proofs.Bounds.{top_le, row_le, multiplier_le, product_le,
 use Rattle.elimination.specs.Conditions.{RowEliminable}
 use Rattle.elimination.specs.Steps.{multiplier, reduced_entry_of, eliminated_row}
 use Rattle.elimination.proofs.eliminate_row.Goals as goal
-
--- what a number is that the bits of z are read back as
-abbrev read : ℤ → ℤ
-read z = to_z w64 (of_z w64 z)
 
 module _ {top row : List ℤ} {k n : ℕ} (h : RowEliminable top row k n) where
   abbrev m' : ℤ
@@ -67,7 +64,7 @@ module _ {top row : List ℤ} {k n : ℕ} (h : RowEliminable top row k n) where
   reduced_is {l} {j} r z e a i f = rw (still {j = j} a i, to_z-of_z (row_fits j), loss_is r z e j f)
 
 pub loop-j-init : goal.loop-j-init
-loop-j-init c = (omega arith, omega arith, sym (fill_none _ (c.args.k + 1) (c.args.k + 1) c.args.row.now (omega arith)))
+loop-j-init c = sym (fill_none _ (c.args.k + 1) (c.args.k + 1) c.args.row.now (omega arith))
 
 pub overflow_mul-m : goal.overflow_mul-m
 overflow_mul-m c =
@@ -79,7 +76,7 @@ overflow_sub-row c =
     let j = c.loop-j.j in
     let reduced =
     reduced_is c.requires c.multiplier_of-m.result c.rounded_by_scale.result (m_is c.requires c.multiplier_of-m.ensures)
-    (omega arith) c.loop-j.invariant.2 c.rounded_by_scale.ensures in
+    (omega arith) c.loop-j.invariant c.rounded_by_scale.ensures in
     rw reduced (reduced_fits c.requires j)
 
 pub loop-j-preserved : goal.loop-j-preserved
@@ -90,13 +87,10 @@ loop-j-preserved c =
     let j = c.loop-j.j in
     let reduced =
     reduced_is c.requires c.multiplier_of-m.result c.rounded_by_scale.result (m_is c.requires c.multiplier_of-m.ensures)
-    (omega arith) c.loop-j.invariant.2 c.rounded_by_scale.ensures in (
-      omega arith,
-      omega arith,
-      rw (reduced, to_z-of_z (reduced_fits c.requires j))
-          (ap (λ (l : List ℤ). set l j (reduced_entry_of (multiplier top row k) top row j)) c.loop-j.invariant.2
-          ∙ fill_next _ (k + 1) j row (omega arith)),
-    )
+    (omega arith) c.loop-j.invariant c.rounded_by_scale.ensures in
+    rw (reduced, to_z-of_z (reduced_fits c.requires j))
+    (ap (λ (l : List ℤ). set l j (reduced_entry_of (multiplier top row k) top row j)) c.loop-j.invariant
+    ∙ fill_next _ (k + 1) j row (omega arith))
 
 pub returns : goal.returns
 unfolding eliminated_row
@@ -104,4 +98,4 @@ returns c =
     let k = c.args.k in
     let e : c.loop-j.j - (k + 1) ≡ c.args.n - (k + 1) = omega arith in
     rw (m_is c.requires c.multiplier_of-m.ensures, ← e)
-    (ap (λ (l : List ℤ). set l k (multiplier c.args.top.now c.args.row.now k)) c.loop-j.invariant.2)
+    (ap (λ (l : List ℤ). set l k (multiplier c.args.top.now c.args.row.now k)) c.loop-j.invariant)

@@ -1,4 +1,4 @@
-use Prim.Native.Nat.{◌+◌, ◌-◌, ◌<◌, ◌≤◌}
+use Prim.Native.Nat.{◌+◌, ◌-◌}
 use mathlib.Core.Path.{◌≡◌}
 use Rattle.integers.specs.Tables.{fill}
 use Rattle.elimination.specs.Steps.{multiplier, reduced_entry_of}
@@ -6,8 +6,4 @@ use Rattle.elimination.proofs.eliminate_row.Given as goal
 
 abbrev pub invariant-loop-j : goal.invariant-loop-j
 invariant-loop-j l =
-    (l.j ≤ l.n) × (l.k < l.j)
-    × (l.row ≡ fill (reduced_entry_of (multiplier l.top l.initial.row l.k) l.top l.initial.row) (l.k + 1) (l.j - (l.k + 1)) l.initial.row)
-
-abbrev pub decreases-loop-j : goal.decreases-loop-j
-decreases-loop-j l = l.n - l.j
+    l.row ≡ fill (reduced_entry_of (multiplier l.top l.initial.row l.k) l.top l.initial.row) (l.k + 1) (l.j - (l.k + 1)) l.initial.row

@@ -14,7 +14,6 @@ use Rattle.elimination.proofs.fill_row.Goals as goal
 
 pub loop-j-init : goal.loop-j-init
 loop-j-init c = (
-  omega arith,
   rw c.requires.2 (zeros_within most_tanks),
   c.requires.2 ∙ sym (fill_none (scaled_coefficient c.args.n c.args.coefficients.now c.args.i) 0 0 zero_row (omega arith)),
 )
@@ -27,11 +26,10 @@ loop-j-preserved c =
     let f : SFits w16 z = record { sfits = omega arith } in
     let b = at_most z (2 ^ 15) (size_sfits f) in
     let g : SFits w64 (pos working_scale *ℤ z) = sfits_by (search bounds) tt in
-    rw (wide_is w16 tt z f, to_z-of_z g) (
-      omega arith,
+    rw (c.from.ensures, wide_is w16 tt z f, to_z-of_z g) (
       within_set c.loop-j.row j (pos working_scale *ℤ z)
-          (product_ok (pos working_scale) z working_scale (2 ^ 15) (omega arith) (size_sfits f)) c.loop-j.invariant.1,
-      ap (λ (l : List ℤ). set l j (pos working_scale *ℤ z)) c.loop-j.invariant.2
+          (product_ok (pos working_scale) z working_scale (2 ^ 15) (omega arith) (size_sfits f)) c.loop-j.invariant.0,
+      ap (λ (l : List ℤ). set l j (pos working_scale *ℤ z)) c.loop-j.invariant.1
           ∙ fill_next (scaled_coefficient s.n s.coefficients.now s.i) 0 j zero_row (omega arith),
     )
 
@@ -41,6 +39,6 @@ returns c =
     let s = c.args in
     let e : c.loop-j.j - 0 ≡ s.n = omega arith in
     record {
-      is = c.loop-j.invariant.2 ∙ ap (λ (m : ℕ). fill (scaled_coefficient s.n s.coefficients.now s.i) 0 m zero_row) e;
-      in_bound = c.loop-j.invariant.1;
+      is = c.loop-j.invariant.1 ∙ ap (λ (m : ℕ). fill (scaled_coefficient s.n s.coefficients.now s.i) 0 m zero_row) e;
+      in_bound = c.loop-j.invariant.0;
     }

@@ -1,4 +1,4 @@
-use Prim.Native.Nat.{◌-◌, ◌≤◌}
+use Prim.Native.Nat.{◌-◌}
 use mathlib.Core.Path.{◌≡◌}
 use Rattle.integers.specs.Tables.{fill, Within}
 use Rattle.elimination.specs.Conditions.{bound}
@@ -7,7 +7,4 @@ use Rattle.elimination.specs.Steps.{zero_row}
 use Rattle.elimination.proofs.fill_row.Given as goal
 
 abbrev pub invariant-loop-j : goal.invariant-loop-j
-invariant-loop-j l = (l.j ≤ l.n) × Within (bound 0) l.row × (l.row ≡ fill (scaled_coefficient l.n l.coefficients l.i) 0 (l.j - 0) zero_row)
-
-abbrev pub decreases-loop-j : goal.decreases-loop-j
-decreases-loop-j l = l.n - l.j
+invariant-loop-j l = Within (bound 0) l.row × (l.row ≡ fill (scaled_coefficient l.n l.coefficients l.i) 0 (l.j - 0) zero_row)

@@ -12,7 +12,6 @@ use Rattle.elimination.proofs.fill_rows.Goals as goal
 
 pub loop-i-init : goal.loop-i-init
 loop-i-init c = (
-  omega arith,
   rw c.requires.1 (all_zeros_within most_tanks most_tanks),
   c.requires.1 ∙ sym (fill_none (working_row c.args.n c.args.coefficients.now) 0 0 zero_rows (omega arith)),
 )
@@ -23,7 +22,7 @@ fill_row-requires c =
     let i = c.loop-i.i in (
       omega arith,
       omega arith,
-      rw c.loop-i.invariant.2
+      rw c.loop-i.invariant.1
           (fill_left (working_row s.n s.coefficients.now) 0 i zero_rows (omega arith) []
           ∙ get_or-replicate most_tanks i zero_row [] (omega arith)),
     )
@@ -32,10 +31,9 @@ pub loop-i-preserved : goal.loop-i-preserved
 loop-i-preserved c =
     let s = c.args in
     let i = c.loop-i.i in (
-      omega arith,
-      all_set_at (λ _. Within (bound 0)) [] c.loop-i.w i _ c.fill_row.ensures.in_bound c.loop-i.invariant.1,
+      all_set_at (λ _. Within (bound 0)) [] c.loop-i.w i _ c.fill_row.ensures.in_bound c.loop-i.invariant.0,
       rw c.fill_row.ensures.is
-          (ap (λ (l : List (List ℤ)). set l i (working_row s.n s.coefficients.now i)) c.loop-i.invariant.2
+          (ap (λ (l : List (List ℤ)). set l i (working_row s.n s.coefficients.now i)) c.loop-i.invariant.1
           ∙ fill_next (working_row s.n s.coefficients.now) 0 i zero_rows (omega arith)),
     )
 
@@ -45,6 +43,6 @@ returns c =
     let s = c.args in
     let e : c.loop-i.i - 0 ≡ s.n = omega arith in
     record {
-      are = c.loop-i.invariant.2 ∙ ap (λ (m : ℕ). fill (working_row s.n s.coefficients.now) 0 m zero_rows) e;
-      in_bound = c.loop-i.invariant.1;
+      are = c.loop-i.invariant.1 ∙ ap (λ (m : ℕ). fill (working_row s.n s.coefficients.now) 0 m zero_rows) e;
+      in_bound = c.loop-i.invariant.0;
     }

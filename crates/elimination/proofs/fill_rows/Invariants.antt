@@ -1,4 +1,4 @@
-use Prim.Native.Nat.{◌-◌, ◌≤◌}
+use Prim.Native.Nat.{◌-◌}
 use mathlib.Core.Path.{◌≡◌}
 use Rattle.integers.specs.Tables.{fill, AllWithin}
 use Rattle.elimination.specs.Conditions.{bound}
@@ -7,7 +7,4 @@ use Rattle.elimination.specs.Steps.{zero_rows}
 use Rattle.elimination.proofs.fill_rows.Given as goal
 
 abbrev pub invariant-loop-i : goal.invariant-loop-i
-invariant-loop-i l = (l.i ≤ l.n) × AllWithin (bound 0) l.w × (l.w ≡ fill (working_row l.n l.coefficients) 0 (l.i - 0) zero_rows)
-
-abbrev pub decreases-loop-i : goal.decreases-loop-i
-decreases-loop-i l = l.n - l.i
+invariant-loop-i l = AllWithin (bound 0) l.w × (l.w ≡ fill (working_row l.n l.coefficients) 0 (l.i - 0) zero_rows)

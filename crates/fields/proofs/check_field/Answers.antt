@@ -41,14 +41,14 @@ returns-then-s-at-2 c =
     let g = c.args in
     at_place g.tag g.len g.at g.s.now (le-leb _ _ c.if-left-lt-HEADER_SIZE.false) (ne_eqb _ _ c.if-s-at-2.true) refl refl
 
-pub returns-then-read_u16-len : goal.returns-then-read_u16-len
-returns-then-read_u16-len c =
+pub returns-then-read-len : goal.returns-then-read-len
+returns-then-read-len c =
     let g = c.args in
-    let length_is = ne_eqb _ _ (λ e. c.if-read_u16-len.true (c.read_u16.ensures ∙ e)) in
+    let length_is = ne_eqb _ _ (λ e. c.if-read-len.true (c.read.ensures ∙ e)) in
     at_place g.tag g.len g.at g.s.now (le-leb _ _ c.if-left-lt-HEADER_SIZE.false) (eq-eqb _ _ c.if-s-at-2.false) length_is refl
 
 pub returns : goal.returns
 returns c =
     let g = c.args in
-    let length_is = eq-eqb _ _ (sym c.read_u16.ensures ∙ c.if-read_u16-len.false) in
+    let length_is = eq-eqb _ _ (sym c.read.ensures ∙ c.if-read-len.false) in
     c.check.ensures ∙ at_place g.tag g.len g.at g.s.now (le-leb _ _ c.if-left-lt-HEADER_SIZE.false) (eq-eqb _ _ c.if-s-at-2.false) length_is refl

@@ -1,21 +1,28 @@
 -- `fractions::compare` meets its contract, in one proof with its own call. Assumes nothing.
-use mathlib.Core.Path.{sym, ◌∙◌}
-use native.Mathlib.Nat.{mod-lt}
-use native.Mathlib.Omega.{arith}
+use Rattle.std.specs.Prelude.{ℕ, ◌/◌, ◌<◌, ◌≡◌, refl}
+use Rattle.std.specs.declared.cmp.Ordering.{Ordering}
+use Rattle.std.specs.declared.cmp.Ordering.TheVariants.{Less, Equal, Greater}
+use Rattle.std.specs.Ordering.{MatchOrdering}
+use Rattle.std.proofs.Common.{sym, ◌∙◌, arith}
+use Rattle.std.proofs.lemmas.Cmp.{ranked}
+use Rattle.fractions.specs.Fraction.{◌over◌, order}
 use Rattle.fractions.proofs.Laws.{order_less, order_greater, by_quotient, by_remainder}
 use Rattle.fractions.proofs.+compare.Goals as goal
 
-pub returns-then-p-q : goal.returns-then-p-q
-returns-then-p-q t c = sym (order_less _ _ (by_quotient c.args.a c.args.b c.args.c c.args.d (omega arith) (omega arith) c.if-p-q.true))
+-- unequal whole quotients are in the order of the fractions
+by_quotients : (a b c d : ℕ) → 0 < b → 0 < d → (o : Ordering) → MatchOrdering o (a / b < c / d) (a / b ≡ c / d) (c / d < a / b) → (o ≡ Equal → ⊥)
+    → o ≡ order (a over b) (c over d)
+by_quotients a b c d h k Less l n = sym (order_less _ _ (by_quotient a b c d h k l))
+by_quotients a b c d h k Equal l n = absurd (n refl)
+by_quotients a b c d h k Greater l n = sym (order_greater _ _ (by_quotient c d a b k h l))
 
-pub returns-then-q-p : goal.returns-then-q-p
-returns-then-q-p t c = sym (order_greater _ _ (by_quotient c.args.c c.args.d c.args.a c.args.b (omega arith) (omega arith) c.if-q-p.true))
+pub returns-in-Equal : goal.returns-in-Equal
+returns-in-Equal t c =
+    let a = c.args in
+    let e : a.a / a.b ≡ a.c / a.d = rw c.in-Equal.is at (ranked (a.a / a.b) (a.c / a.d) c.cmp.result c.cmp.ensures) in
+    c.compare.ensures ∙ sym (by_remainder a.a a.b a.c a.d (omega arith) (omega arith) e)
 
-pub compare-requires : goal.compare-requires
-compare-requires t c =
-    let h = mod-lt c.args.a {m = c.args.b} (omega arith) in
-    let k = mod-lt c.args.c {m = c.args.d} (omega arith) in
-    omega arith
-
-pub returns : goal.returns
-returns t c = c.compare.ensures ∙ sym (by_remainder c.args.a c.args.b c.args.c c.args.d (omega arith) (omega arith) (omega arith))
+pub returns-in_default : goal.returns-in_default
+returns-in_default t c =
+    let a = c.args in
+    by_quotients a.a a.b a.c a.d (omega arith) (omega arith) _ (ranked _ _ _ c.cmp.ensures) c.in_default.not-Equal

@@ -1,49 +1,43 @@
--- `fractions::compare_zero` meets its contract: where a denominator is 0, one of the two cross products is 0 or a numerator. Assumes nothing.
-use Prim.Native.Nat.{ℕ}
-use mathlib.Core.Logic.{◌⊎◌, inl, inr}
-use mathlib.Core.Path.{◌≡◌, sym}
-use native.Mathlib.Nat.{mul-pos}
-use native.Mathlib.Omega.{arith}
-use Rattle.fractions.proofs.Laws.{order_less, order_equal, order_greater, numerator_base, proper_base}
+-- `fractions::compare_zero` meets its contract: 0 over anything is below what has a numerator, and what has one is above all others over 0.
+-- Assumes nothing.
+use Rattle.std.specs.Prelude.{ℕ, zero, suc, ◌<◌, ◌⊎◌, ◌≡◌}
+use Rattle.std.proofs.Common.{inl, inr, sym, arith, mul-pos}
+use Rattle.fractions.specs.Fraction.{◌over◌, ◌≺◌}
+use Rattle.fractions.proofs.Laws.{order_less, order_equal, order_greater, proper_base, over_zero_above, over_zero_alike}
 use Rattle.fractions.proofs.compare_zero.Goals as goal
+
+zero_below : (b c d : ℕ) → 0 < c → (0 over b) ≺ (c over d)
+zero_below zero c d h = omega arith
+zero_below (suc b) c d h = omega (arith, mul-pos {m = c} {n = suc b} h (omega arith))
 
 -- the second denominator, where the first is not the one that is 0
 second : (b d : ℕ) → (b ≡ 0) ⊎ (d ≡ 0) → (b ≡ 0 → ⊥) → d ≡ 0
 second b d (inl e) n = absurd (n e)
 second b d (inr e) n = e
 
-pub returns-then-c-eq0 : goal.returns-then-c-eq0
-returns-then-c-eq0 c = sym (order_equal _ _ (rw (c.if-a-eq0.true, c.if-c-eq0.true) (omega arith)))
+pub returns-in-0-default-eq0-default : goal.returns-in-0-default-eq0-default
+returns-in-0-default-eq0-default c = sym (order_equal _ _ (rw (c.in-0-default-eq0-default.is-0, c.in-0-default-eq0-default.is-2) (omega arith)))
 
-pub returns-else-c-eq0 : goal.returns-else-c-eq0
-returns-else-c-eq0 c =
-    let e = c.if-a-eq0.true in
-    sym (order_less _ _ (rw (e, c.if-b-eq0.true) (omega arith)))
+pub returns-in-0-default-default-default : goal.returns-in-0-default-default-default
+returns-in-0-default-default-default c =
+    sym (order_less _ _ (rw c.in-0-default-default-default.is-0 (zero_below _ _ _ (omega arith))))
 
-pub returns-then-c-eq0-2 : goal.returns-then-c-eq0-2
-returns-then-c-eq0-2 c = sym (order_greater _ _ (rw (c.if-c-eq0-2.true, c.if-d-eq0.true) (omega arith)))
+pub returns-in_default-default-eq0-default : goal.returns-in_default-default-eq0-default
+returns-in_default-default-eq0-default c =
+    sym (order_greater _ _ (rw c.in_default-default-eq0-default.is-2 (zero_below _ _ _ (omega arith))))
 
-pub returns-else-c-eq0-2 : goal.returns-else-c-eq0-2
-returns-else-c-eq0-2 c =
-    let g = c.args in
-    sym (order_equal _ _ (rw (numerator_base g.a g.b (omega arith), numerator_base g.c g.d (omega arith), c.if-d-eq0.true, c.if-b-eq0.true) (omega arith)))
+pub returns-in_default-eq0-default-eq0 : goal.returns-in_default-eq0-default-eq0
+returns-in_default-eq0-default-eq0 c =
+    let z = c.in_default-eq0-default-eq0 in
+    sym (rw (z.is-1, z.is-3) (over_zero_alike _ _ (omega arith) (omega arith)))
 
-pub returns-else-d-eq0 : goal.returns-else-d-eq0
-returns-else-d-eq0 c =
-    let g = c.args in
-    sym (order_greater _ _ (rw (numerator_base g.a g.b (omega arith), proper_base g.c g.d (omega arith), c.if-b-eq0.true) (omega (arith, mul-pos {m = g.a} {n = g.d} (omega arith) (omega arith)))))
+pub returns-in_default-eq0-default-default : goal.returns-in_default-eq0-default-default
+returns-in_default-eq0-default-default c =
+    let a = c.args in
+    sym (order_greater _ _ (rw c.in_default-eq0-default-default.is-1 (over_zero_above a.a a.c a.d (omega arith) (rw (proper_base a.c a.d (omega arith)) (omega arith)))))
 
-pub returns-then-a-eq0-2 : goal.returns-then-a-eq0-2
-returns-then-a-eq0-2 c = sym (order_equal _ _ (rw (c.if-c-eq0-3.true, c.if-a-eq0-2.true) (omega arith)))
-
-pub returns-else-a-eq0-2 : goal.returns-else-a-eq0-2
-returns-else-a-eq0-2 c =
-    let g = c.args in
-    let e = second g.b g.d c.requires c.if-b-eq0.false in
-    sym (order_greater _ _ (rw (c.if-c-eq0-3.true, e) (omega arith)))
-
-pub returns-else-c-eq0-3 : goal.returns-else-c-eq0-3
-returns-else-c-eq0-3 c =
-    let g = c.args in
-    let e = second g.b g.d c.requires c.if-b-eq0.false in
-    sym (order_less _ _ (rw (numerator_base g.c g.d (omega arith), proper_base g.a g.b (omega arith), e) (omega (arith, mul-pos {m = g.c} {n = g.b} (omega arith) (omega arith)))))
+pub returns-in_default : goal.returns-in_default
+returns-in_default c =
+    let a = c.args in
+    let e = second a.b a.d c.requires c.in_default.is-1.1 in
+    sym (order_less _ _ (rw e (over_zero_above a.c a.a a.b (omega arith) (rw (proper_base a.a a.b (omega arith)) (omega arith)))))

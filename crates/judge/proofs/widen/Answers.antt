@@ -1,13 +1,13 @@
 -- `judge::widen` meets its contract. The loop's invariant: the places below j hold the trial's figures, each of which fits 32 bits, and their
 -- absolute values, those behind them zeros. Assumes nothing.
-use Prim.Native.Nat.{ℕ, ◌+◌, ◌-◌, ◌^◌, ◌≤◌, ◌<◌}
+use Prim.Native.Nat.{◌^◌, ◌≤◌}
 use borrow.Author.Count.{below_more}
 use borrow.Author.Rules.{rules}
-use lib.IntN.{ℤ, pos, nat_abs}
+use lib.IntN.{pos, nat_abs}
 use lib.ListN.{get_or}
-use mathlib.Core.Path.{◌≡◌, ap, ◌∙◌}
-use mir.Syntax.{w32, w64}
-use mir.Val.{SFits, to_z, of_z}
+use mathlib.Core.Path.{ap, ◌∙◌}
+use mir.Syntax.{w32}
+use mir.Val.{SFits}
 use native.Mathlib.Omega.{arith}
 use Rattle.integers.specs.Signed.{wide_is}
 use Rattle.integers.specs.Size.{size_sfits}

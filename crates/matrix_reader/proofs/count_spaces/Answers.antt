@@ -1,18 +1,18 @@
--- `matrix_reader::count_spaces` meets its contract. The loop's invariant: those that are counted and those that follow are the spaces at the front.
+-- `matrix_reader::count_spaces` meets its contract: what the iterator yields is the spaces at the front.
 -- Assumes nothing.
-use borrow.Author.Tests.{eq-eqb, ne_eqb}
-use native.Mathlib.Omega.{arith}
-use Rattle.buffer.specs.LeadingLaws.{count_begun, count_turn, count_stopped, count_ended}
+use borrow.Author.Rules.{rules}
+use borrow.Author.Tests.{tests}
+use mathlib.Core.Path.{◌∙◌}
+use Rattle.std.proofs.lemmas.Iterator.{YieldsList-from_slice}
+use Rattle.std.proofs.lemmas.Iterator.Consumers.{count_from_yields_List}
+use Rattle.std.proofs.lemmas.Iterator.Search.{YieldsList-from_take_while}
+use Rattle.std.proofs.lemmas.List.Folds.{length-prefix_len}
+use Rattle.matrixfile.specs.Read.{is_space}
+use Rattle.matrix_reader.specs.PartLaws.{prefix_leading}
 use Rattle.matrix_reader.proofs.count_spaces.Goals as goal
 
-pub loop-k-init : goal.loop-k-init
-loop-k-init c = count_begun
-
-pub loop-k-preserved : goal.loop-k-preserved
-loop-k-preserved c = count_turn c.loop-k.invariant 0 (omega arith) (eq-eqb _ _ c.if-text-k-eq32.true)
-
-pub returns-else-text-k-eq32 : goal.returns-else-text-k-eq32
-returns-else-text-k-eq32 c = count_stopped c.loop-k.invariant 0 (omega arith) (ne_eqb _ _ c.if-text-k-eq32.false)
-
-pub returns-after-loop-k : goal.returns-after-loop-k
-returns-after-loop-k c = count_ended c.loop-k.invariant (omega arith)
+pub returns : goal.returns
+returns c =
+    count_from_yields_List _ _ c.count.ensures.ran
+    (YieldsList-from_take_while _ is_space (YieldsList-from_slice c.args.text.now cc) (cc) (cc) (λ x b q k. search (rules, tests)))
+    ∙ length-prefix_len is_space c.args.text.now ∙ prefix_leading is_space c.args.text.now

@@ -1,60 +1,55 @@
 -- `matrix_reader::read_header` meets its contract: the first line, the comment lines, and the size line where they end.
 -- Assumes nothing.
-use Prim.Native.Nat.{ℕ, ◌+◌}
+use Prim.Native.Nat.{◌+◌}
 use lib.ListN.{length, drop}
 use mathlib.Core.Bool.{true}
-use mathlib.Core.List.{List}
 use mathlib.Core.Path.{◌≡◌, sym, ◌∙◌}
-use borrow.Author.Tests.{not-true, not-false}
 use native.Mathlib.Omega.{arith}
 use Rattle.buffer.specs.Buffer.{begins_by}
 use Rattle.buffer.specs.Laws.{part_is}
 use Rattle.matrixfile.specs.Text.{first_line}
 use Rattle.matrix_reader.specs.Parts.{CommentsRead, SizeRead}
-use Rattle.matrix_reader.specs.PartLaws.{first_line_room, size_place, header_size_refused, header_accepted}
+use Rattle.matrix_reader.specs.PartLaws.{starts_begins, header_refused, first_line_room, size_place, header_size_refused, header_accepted}
 use Rattle.matrix_reader.proofs.read_header.Goals as goal
+use Rattle.matrix_reader.proofs.read_header.Goals.{Else-not-starts_with, After-comment_bytes, After-read_size}
+
+first : (c : Else-not-starts_with) → begins_by first_line c.args.text.now ≡ true
+first c = sym (starts_begins first_line c.args.text.now) ∙ sym c.starts_with.ensures.value ∙ c.if-not-starts_with.false
+
+comments : (c : After-comment_bytes) → CommentsRead (drop (length first_line) c.args.text.now) c.comment_bytes.result
+comments c = rw (part_is c.args.text.now (length first_line)) at c.comment_bytes.ensures
+
+size : (c : After-read_size) → SizeRead (drop (length first_line + c.comment_bytes.result) c.args.text.now) c.read_size.result
+size c = rw (part_is c.args.text.now (length first_line + c.comment_bytes.result)) at c.read_size.ensures
 
 -- the first line stands there
+pub returns-then-not-starts_with : goal.returns-then-not-starts_with
+returns-then-not-starts_with c = header_refused _ (sym (starts_begins first_line c.args.text.now) ∙ sym c.starts_with.ensures.value ∙ c.if-not-starts_with.true)
+
 pub slice_bounds-comment_bytes-count : goal.slice_bounds-comment_bytes-count
-slice_bounds-comment_bytes-count c = omega (arith, first_line_room c.args.text.now (sym c.begins_with.ensures ∙ c.if-not-begins_with.false))
+slice_bounds-comment_bytes-count c = omega (arith, first_line_room c.args.text.now (first (goal.at.slice_bounds-comment_bytes-count c).Else-not-starts_with))
 
 pub slice_bounds-comment_bytes-start : goal.slice_bounds-comment_bytes-start
-slice_bounds-comment_bytes-start c = omega (arith, first_line_room c.args.text.now (sym c.begins_with.ensures ∙ c.if-not-begins_with.false))
+slice_bounds-comment_bytes-start c = omega (arith, first_line_room c.args.text.now (first (goal.at.slice_bounds-comment_bytes-start c).Else-not-starts_with))
 
 -- and the comment lines behind it
 pub slice_bounds-read_size-count : goal.slice_bounds-read_size-count
 slice_bounds-read_size-count c =
-    let text : List ℕ = c.args.text.now in
-    let first : begins_by first_line text ≡ true = sym c.begins_with.ensures ∙ c.if-not-begins_with.false in
-    let comments : CommentsRead (drop (length first_line) text) c.comment_bytes.result =
-    rw (part_is text (length first_line)) at c.comment_bytes.ensures in
-    omega (arith, (size_place text first comments).inside)
+    let p = goal.at.slice_bounds-read_size-count c in
+    omega (arith, (size_place c.args.text.now (first p.Else-not-starts_with) (comments p.After-comment_bytes)).inside)
 
 pub slice_bounds-read_size-start : goal.slice_bounds-read_size-start
 slice_bounds-read_size-start c =
-    let text : List ℕ = c.args.text.now in
-    let first : begins_by first_line text ≡ true = sym c.begins_with.ensures ∙ c.if-not-begins_with.false in
-    let comments : CommentsRead (drop (length first_line) text) c.comment_bytes.result =
-    rw (part_is text (length first_line)) at c.comment_bytes.ensures in
-    omega (arith, (size_place text first comments).inside)
+    let p = goal.at.slice_bounds-read_size-start c in
+    omega (arith, (size_place c.args.text.now (first p.Else-not-starts_with) (comments p.After-comment_bytes)).inside)
 
 -- and the size line
-pub returns-then-not-size : goal.returns-then-not-size
-returns-then-not-size c =
-    let text : List ℕ = c.args.text.now in
-    let first : begins_by first_line text ≡ true = sym c.begins_with.ensures ∙ c.if-not-begins_with.false in
-    let comments : CommentsRead (drop (length first_line) text) c.comment_bytes.result =
-    rw (part_is text (length first_line)) at c.comment_bytes.ensures in
-    let at : ℕ = length first_line + c.comment_bytes.result in
-    let size : SizeRead (drop at text) c.read_size-size.result = rw (part_is text at) at c.read_size-size.ensures in
-    header_size_refused text first comments size (not-true _ c.if-not-size.true)
+pub returns-in_err-size : goal.returns-in_err-size
+returns-in_err-size c =
+    let p = goal.at.returns-in_err-size c in
+    rw c.from_residual.ensures (header_size_refused c.args.text.now (first p.Else-not-starts_with) (comments p.After-comment_bytes) (size p.After-read_size) c.in_err-size.was)
 
 pub returns : goal.returns
 returns c =
-    let text : List ℕ = c.args.text.now in
-    let first : begins_by first_line text ≡ true = sym c.begins_with.ensures ∙ c.if-not-begins_with.false in
-    let comments : CommentsRead (drop (length first_line) text) c.comment_bytes.result =
-    rw (part_is text (length first_line)) at c.comment_bytes.ensures in
-    let at : ℕ = length first_line + c.comment_bytes.result in
-    let size : SizeRead (drop at text) c.read_size-size.result = rw (part_is text at) at c.read_size-size.ensures in
-    header_accepted text first comments size (not-false _ c.if-not-size.false)
+    let p = goal.at.returns c in
+    header_accepted c.args.text.now (first p.Else-not-starts_with) (comments p.After-comment_bytes) (size p.After-read_size) c.in_ok-size.was

@@ -1,6 +1,4 @@
 -- `recordfile::write_factor` meets its contract: the header, and the value's bytes stored behind it. Assumes nothing.
-use borrow.Author.Rules.{rules}
-use lib.ListN.{length-set}
 use mathlib.Core.List.{[], ◌∷◌}
 use native.Mathlib.Omega.{arith}
 use Rattle.recordfile.specs.Laws.{flag_stored}
@@ -9,8 +7,7 @@ use Rattle.recordfile.proofs.write_factor.Goals as goal
 
 pub returns : goal.returns
 returns c =
-    let s = c in
-    let a = s.args in
+    let a = c.args in
     let w = c.write_header in
     flag_stored factor_tag a.none (a.decides ∷ []) a.out.now _ c.flag-m.ensures
-    (omega (arith, s.requires, w.auto)) w.ensures
+    (omega (arith, c.requires, w.auto)) w.ensures

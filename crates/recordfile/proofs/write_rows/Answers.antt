@@ -1,5 +1,4 @@
 -- `recordfile::write_rows` meets its contract: the header, and the pairs behind it. Assumes nothing.
-use borrow.Author.Rules.{rules}
 use mathlib.Core.Path.{sym, ◌∙◌}
 use Rattle.fields.proofs.FieldLaws.{field_written}
 use Rattle.recordfile.specs.Laws.{length_pairs}
@@ -8,7 +7,5 @@ use Rattle.recordfile.proofs.write_rows.Goals as goal
 
 pub returns : goal.returns
 returns c =
-    let w = c in
-    let p = w in
-    let a = p.args in
-    field_written rows_tag _ _ a.out.now _ (length_pairs a.n a.residuals.now a.reaches.now ∙ sym p.condition_places-places.ensures.rows_len) w.write_header.ensures c.write_pairs.ensures
+    let a = c.args in
+    field_written rows_tag _ _ a.out.now _ (length_pairs a.n a.trial.now.residuals a.trial.now.reaches ∙ sym c.condition_places-places.ensures.rows_len) c.write_header.ensures c.write_pairs.ensures

@@ -1,29 +1,19 @@
 -- `report::render_refusal` meets its contract: two texts, one after another.
 -- Assumes nothing.
-use borrow.Author.Rules.{rules}
-use mathlib.Core.List.{[], ◌∷◌}
-use Rattle.buffer.specs.WroteLaws.{Rooms, room_here, room_after, wrote_first, wrote_last}
-use Rattle.decimal.specs.Decimal.{line_feed, ascii}
-use Rattle.report.specs.Text.{labelled, refusal_text}
+use Rattle.std.proofs.Common.{rules}
+use Rattle.decimal.proofs.WritingLaws.{piece_room, piece_written, wrote_back}
+use Rattle.report.specs.Text.{refusal_text}
+use Rattle.report.proofs.Lines.{refusal_pieces}
 use Rattle.report.proofs.render_refusal.Goals as goal
 
-pub write_labelled-after_number-requires : goal.write_labelled-after_number-requires
-unfolding refusal_text
-write_labelled-after_number-requires c =
-    let room : Rooms (labelled (ascii "refused ") c.args.number ∷ line_feed ∷ []) 0 c.args.out.now = record { whole = c.requires } in
-    room_here room
+pub write_labelled-requires : goal.write_labelled-requires
+write_labelled-requires c = piece_room (refusal_pieces _ c.args.number c.requires)
 
-pub write_bytes-requires : goal.write_bytes-requires
-unfolding refusal_text
-write_bytes-requires c =
-    let room : Rooms (labelled (ascii "refused ") c.args.number ∷ line_feed ∷ []) 0 c.args.out.now = record { whole = c.requires } in
-    let l = c in
-    room_here (room_after room l.write_labelled-after_number.ensures)
+pub bytes-requires : goal.bytes-requires
+bytes-requires c = piece_room (piece_written (refusal_pieces _ c.args.number c.requires) c.write_labelled.ensures)
 
 pub returns : goal.returns
 unfolding refusal_text
 returns c =
-    let room : Rooms (labelled (ascii "refused ") c.args.number ∷ line_feed ∷ []) 0 c.args.out.now = record { whole = c.requires } in
-    let l = c in
-    let r = room in
-    (wrote_first r l.write_labelled-after_number.ensures (wrote_last c.write_bytes.ensures)).whole
+    let w = (piece_written (piece_written (refusal_pieces _ c.args.number c.requires) c.write_labelled.ensures) c.bytes.ensures).wrote in
+    wrote_back w (search (rules, w.same))

@@ -1,66 +1,27 @@
 -- `report::write_verdict_line` meets its contract: three texts, one after another.
 -- Assumes nothing.
-use Prim.Native.Nat.{◌≤◌}
-use borrow.Author.Rules.{rules}
-use lib.Dec.{lit≤}
-use lib.ListN.{length}
-use mathlib.Core.List.{[], ◌∷◌}
-use native.Mathlib.Nat.{lt_of_lt_of_le}
-use native.Mathlib.Omega.{arith}
-use Rattle.buffer.specs.Buffer.{Room}
-use Rattle.buffer.specs.WroteLaws.{Rooms, room_here, room_after, wrote_first, wrote_last}
-use Rattle.decimal.specs.Decimal.{line_feed, ascii}
-use Rattle.report.specs.Text.{labelled, verdict_word, verdict_line, verdict_room}
-use Rattle.report.proofs.TextLaws.{length_verdict_line}
+use Rattle.decimal.proofs.WritingLaws.{piece_room, piece_written}
+use Rattle.report.specs.Text.{verdict_line}
+use Rattle.report.proofs.Lines.{line_written, verdict_pieces}
 use Rattle.report.proofs.write_verdict_line.Goals as goal
 
-pub write_either-after_row-requires : goal.write_either-after_row-requires
-unfolding verdict_line
-write_either-after_row-requires c =
-    let short : length (verdict_line c.args.met c.args.row c.args.rounds) ≤ verdict_room = length_verdict_line c.args.met c.args.row c.args.rounds
-    (lt_of_lt_of_le c.ranges.row.fits (lit≤ tt))
-    (lt_of_lt_of_le c.ranges.rounds.fits (lit≤ tt)) in
-    let whole_room : Room (verdict_line c.args.met c.args.row c.args.rounds) c.args.at c.args.out.now = record { room = omega (arith, short, c.requires) } in
-    let room : Rooms (labelled (verdict_word c.args.met) c.args.row ∷ labelled (ascii " rounds ") c.args.rounds ∷ line_feed ∷ []) c.args.at c.args.out.now = record { whole = whole_room } in
-    room_here room
+pub write_either-requires : goal.write_either-requires
+write_either-requires c =
+    let l = verdict_pieces c.args.to.now c.args.met c.args.row c.args.rounds c.ranges.row c.ranges.rounds c.requires in
+    piece_room l.begun
 
-pub write_labelled-after_rounds-requires : goal.write_labelled-after_rounds-requires
-unfolding verdict_line
-write_labelled-after_rounds-requires c =
-    let short : length (verdict_line c.args.met c.args.row c.args.rounds) ≤ verdict_room = length_verdict_line c.args.met c.args.row c.args.rounds
-    (lt_of_lt_of_le c.ranges.row.fits (lit≤ tt))
-    (lt_of_lt_of_le c.ranges.rounds.fits (lit≤ tt)) in
-    let whole_room : Room (verdict_line c.args.met c.args.row c.args.rounds) c.args.at c.args.out.now = record { room = omega (arith, short, c.requires) } in
-    let room : Rooms (labelled (verdict_word c.args.met) c.args.row ∷ labelled (ascii " rounds ") c.args.rounds ∷ line_feed ∷ []) c.args.at c.args.out.now = record { whole = whole_room } in
-    let v = c in
-    room_here (room_after room v.write_either-after_row.ensures)
+pub write_labelled-requires : goal.write_labelled-requires
+write_labelled-requires c =
+    let l = verdict_pieces c.args.to.now c.args.met c.args.row c.args.rounds c.ranges.row c.ranges.rounds c.requires in
+    piece_room (piece_written l.begun c.write_either.ensures)
 
-pub write_bytes-requires : goal.write_bytes-requires
-unfolding verdict_line
-write_bytes-requires c =
-    let short : length (verdict_line c.args.met c.args.row c.args.rounds) ≤ verdict_room = length_verdict_line c.args.met c.args.row c.args.rounds
-    (lt_of_lt_of_le c.ranges.row.fits (lit≤ tt))
-    (lt_of_lt_of_le c.ranges.rounds.fits (lit≤ tt)) in
-    let whole_room : Room (verdict_line c.args.met c.args.row c.args.rounds) c.args.at c.args.out.now = record { room = omega (arith, short, c.requires) } in
-    let room : Rooms (labelled (verdict_word c.args.met) c.args.row ∷ labelled (ascii " rounds ") c.args.rounds ∷ line_feed ∷ []) c.args.at c.args.out.now = record { whole = whole_room } in
-    let l = c in
-    let v = l in
-    room_here (room_after (room_after room v.write_either-after_row.ensures) l.write_labelled-after_rounds.ensures)
+pub bytes-requires : goal.bytes-requires
+bytes-requires c =
+    let l = verdict_pieces c.args.to.now c.args.met c.args.row c.args.rounds c.ranges.row c.ranges.rounds c.requires in
+    piece_room (piece_written (piece_written l.begun c.write_either.ensures) c.write_labelled.ensures)
 
 pub returns : goal.returns
 unfolding verdict_line
 returns c =
-    let short : length (verdict_line c.args.met c.args.row c.args.rounds) ≤ verdict_room = length_verdict_line c.args.met c.args.row c.args.rounds
-    (lt_of_lt_of_le c.ranges.row.fits (lit≤ tt))
-    (lt_of_lt_of_le c.ranges.rounds.fits (lit≤ tt)) in
-    let whole_room : Room (verdict_line c.args.met c.args.row c.args.rounds) c.args.at c.args.out.now = record { room = omega (arith, short, c.requires) } in
-    let room : Rooms (labelled (verdict_word c.args.met) c.args.row ∷ labelled (ascii " rounds ") c.args.rounds ∷ line_feed ∷ []) c.args.at c.args.out.now = record { whole = whole_room } in
-    let b = c in
-    let l = b in
-    let v = l in
-    let s = v in
-    let r = room in
-    let w =
-    wrote_first r v.write_either-after_row.ensures
-    (wrote_first (room_after r v.write_either-after_row.ensures) l.write_labelled-after_rounds.ensures (wrote_last b.write_bytes.ensures)) in
-    record { short = short; wrote = w.whole }
+    let l = verdict_pieces c.args.to.now c.args.met c.args.row c.args.rounds c.ranges.row c.ranges.rounds c.requires in
+    line_written l (piece_written (piece_written (piece_written l.begun c.write_either.ensures) c.write_labelled.ensures) c.bytes.ensures)

@@ -1,16 +1,12 @@
 -- `rounding::nearest` meets its contract. Where the quotient goes up, the divisor is at least 2, so that the next number fits.
 -- Assumes nothing.
 use Prim.Native.Nat.{◌/◌, ◌%◌, ◌≤◌}
-use borrow.Author.Rules.{rules}
 use mathlib.Core.Path.{sym, ◌∙◌}
 use native.Mathlib.Nat.{mod-lt, div-add-mod', mul-le-mul_left}
 use native.Mathlib.Omega.{arith}
 use Rattle.rounding.proofs.HalfLaws.{up_half}
 use Rattle.rounding.proofs.Laws.{near_by}
 use Rattle.rounding.proofs.nearest.Goals as goal
-
-pub rounds_up-requires : goal.rounds_up-requires
-rounds_up-requires c = mod-lt c.args.a c.requires
 
 pub overflow_add-result : goal.overflow_add-result
 overflow_add-result c =

@@ -1,22 +1,19 @@
 -- `solver::correct_figures` meets its contract. The loop's invariant: the figures left to form, from those formed, give the whole.
 -- Assumes nothing.
-use Prim.Native.Nat.{ℕ, ◌-◌, ◌≤◌}
-use borrow.Author.Rules.{rules}
+use Prim.Native.Nat.{ℕ, ◌≤◌}
 use lib.IntN.{ℤ, pos, nat_abs, ◌+ℤ◌}
 use lib.ListN.{get_or}
 use mathlib.Core.List.{List}
-use mathlib.Core.Path.{◌≡◌, sym, ap, ◌∙◌}
+use mathlib.Core.Path.{◌≡◌, sym, ◌∙◌}
 use mir.Facts.{to_z-of_z}
 use mir.Syntax.{w32, w64}
 use mir.Val.{SFits, to_z, of_z}
-use native.Mathlib.Nat.{sub-zero}
 use native.Mathlib.Omega.{arith}
 use Rattle.integers.specs.Size.{sfits_size, sum_ok}
 use Rattle.integers.specs.TableLaws.{within_set}
-use Rattle.integers.specs.Tables.{Within}
 use Rattle.substitution.specs.Passes.{correction_limit}
 use Rattle.solver.proofs.Laws.{corrected_more, corrected_stop, corrected_done}
-use Rattle.solver.specs.Refinement.{figure_limit, corrected_figure, corrected_from}
+use Rattle.solver.specs.Refinement.{figure_limit, corrected_figure}
 use Rattle.solver.proofs.correct_figures.Goals as goal
 
 -- what is read of a figure y and its correction d: their sum; and a sum within the limit is stored as it is

@@ -1,19 +1,7 @@
-use Prim.Native.Nat.{ℕ, ◌-◌, ◌≤◌}
-use borrow.Author.Rules.{rules}
-use lib.IntN.{ℤ, pos, nat_abs, ◌+ℤ◌}
-use lib.ListN.{get_or}
-use mathlib.Core.List.{List}
-use mathlib.Core.Path.{◌≡◌, sym, ap, ◌∙◌}
-use mir.Facts.{to_z-of_z}
-use mir.Syntax.{w32, w64}
-use mir.Val.{SFits, to_z, of_z}
-use native.Mathlib.Nat.{sub-zero}
-use native.Mathlib.Omega.{arith}
-use Rattle.integers.specs.Size.{sfits_size, sum_ok}
-use Rattle.integers.specs.TableLaws.{within_set}
+use Prim.Native.Nat.{◌-◌, ◌≤◌}
+use mathlib.Core.Path.{◌≡◌}
 use Rattle.integers.specs.Tables.{Within}
-use Rattle.solver.proofs.Laws.{corrected_more, corrected_stop, corrected_done}
-use Rattle.solver.specs.Refinement.{figure_limit, corrected_figure, corrected_from}
+use Rattle.solver.specs.Refinement.{figure_limit, corrected_from}
 use Rattle.solver.proofs.correct_figures.Given as goal
 
 abbrev pub invariant-loop-j : goal.invariant-loop-j

@@ -1,27 +1,13 @@
--- `soundings::all_inside` meets its contract: the law of testing loops. Assumes nothing.
-use native.Mathlib.Omega.{arith}
-use Prim.Native.Nat.{◌-◌}
-use borrow.Author.Rules.{rules}
-use lib.IntN.{pos}
-use lib.ListN.{length, get_or}
-use mathlib.Core.Path.{◌≡◌}
-use mir.Facts.{to_z-of_z}
-use mir.Syntax.{w32}
-use mir.Val.{to_z, of_z}
-use Rattle.figures.proofs.LoopLaws.{Testing, test_begun, test_turn, test_ended}
+-- `soundings::all_inside` meets its contract: the library's test of each element.
+-- Assumes nothing.
+use Rattle.std.proofs.Common.{rules, tests, ◌∙◌}
+use Rattle.std.proofs.lemmas.Iterator.{YieldsList-from_slice}
+use Rattle.std.proofs.lemmas.Iterator.Search.{all_from_yields_List}
+use Rattle.figures.proofs.LoopLaws.{all_listed}
 use Rattle.sounding_table.specs.Depth.{inside}
 use Rattle.soundings.proofs.all_inside.Goals as goal
 
-pub loop-j-preserved : goal.loop-j-preserved
-loop-j-preserved c =
-    let l = c in
-    let a = l.args in
-    let y = get_or a.answer.now l.loop-j.j (pos 0) in
-    let same : to_z w32 (of_z w32 y) ≡ y = to_z-of_z {w = w32} (record { sfits = omega arith }) in
-    test_turn l.loop-j.invariant (pos 0) c.loop-j-test.true (rw same at c.inside-fine.ensures)
-
-pub loop-j-init : goal.loop-j-init
-loop-j-init c = test_begun
-
 pub returns : goal.returns
-returns c = test_ended c.loop-j.invariant c.loop-j-test.false
+returns c =
+    let test = inside c.args.table.now c.args.scale in
+    all_from_yields_List test _ _ _ c.all.ensures.ran (YieldsList-from_slice c.args.answer.now cc) (λ x b q k. search (rules, tests)) ∙ all_listed test c.args.answer.now

@@ -1,8 +1,6 @@
 -- `soundings::write_soundings` meets its contract: refusal 10, or the depths of answers that are all inside. Assumes nothing.
-use borrow.Author.Rules.{rules}
-use borrow.Author.Tests.{not-true, not-false}
 use mathlib.Core.Path.{sym, ◌∙◌}
-use Rattle.soundings.proofs.SoundingLaws.{written_outside, written_inside}
+use Rattle.soundings.proofs.SoundingLaws.{written_inside}
 use Rattle.soundings.proofs.write_soundings.Goals as goal
 
 pub returns : goal.returns

@@ -34,36 +34,35 @@ module _ (w : List (List ℤ)) (z : List ℤ) (n left : ℕ) (d : List ℤ) wher
     more : nat_abs value ≤ correction_limit → backward_from w z n (left - 1) (set d (left - 1) value) ≡ backward w z n
     more h = sym (backward_more w z n (left - 1) d h) ∙ left_is
 
-pub loop-left-init : goal.loop-left-init
+pub loop-i-init : goal.loop-i-init
 unfolding backward
-loop-left-init c = (omega arith, zeros_within most_tanks, refl)
+loop-i-init c = (zeros_within most_tanks, refl)
 
 pub returns-then-magnitude-gt-CORRECTION_LIMIT : goal.returns-then-magnitude-gt-CORRECTION_LIMIT
 returns-then-magnitude-gt-CORRECTION_LIMIT c =
     let w = c.args.working.now in
     let z = c.args.z.now in
     let n = c.args.n in
-    let l = c.loop-left in
+    let l = c.loop-i in
     let v = c.correction_of-v in
-    let e = ap nat_abs (read_value w z n l.left l.d c.requires.right (record { sfits = v.type_inv }) v.ensures) in
-    stop w z n l.left l.d c.loop-left-test.true l.invariant.2 (omega arith)
+    let e = ap nat_abs (read_value w z n l.i l.d c.requires.right (record { sfits = v.type_inv }) v.ensures) in
+    stop w z n l.i l.d c.loop-i-test.true l.invariant.1 (omega arith)
 
-pub loop-left-preserved : goal.loop-left-preserved
-loop-left-preserved c =
+pub loop-i-preserved : goal.loop-i-preserved
+loop-i-preserved c =
     let w = c.args.working.now in
     let z = c.args.z.now in
     let n = c.args.n in
-    let l = c.loop-left in
+    let l = c.loop-i in
     let v = c.correction_of-v in
-    let r = read_value w z n l.left l.d c.requires.right (record { sfits = v.type_inv }) v.ensures in
-    let h : nat_abs (value w z n l.left l.d) ≤ correction_limit = omega (arith, ap nat_abs r) in
+    let r = read_value w z n l.i l.d c.requires.right (record { sfits = v.type_inv }) v.ensures in
+    let h : nat_abs (value w z n l.i l.d) ≤ correction_limit = omega (arith, ap nat_abs r) in
     rw r (
-      omega arith,
-      within_set l.d (l.left - 1) (value w z n l.left l.d) h l.invariant.1,
-      more w z n l.left l.d c.loop-left-test.true l.invariant.2 h,
+      within_set l.d (l.i - 1) (value w z n l.i l.d) h l.invariant.0,
+      more w z n l.i l.d c.loop-i-test.true l.invariant.1 h,
     )
 
 pub returns : goal.returns
 returns c =
-    let l : c.loop-left.left ≡ 0 = omega arith in
-    sym (rw l at (sym c.loop-left.invariant.2) ∙ backward_done c.args.working.now c.args.z.now c.args.n c.loop-left.d)
+    let l : c.loop-i.i ≡ 0 = omega arith in
+    sym (rw l at (sym c.loop-i.invariant.1) ∙ backward_done c.args.working.now c.args.z.now c.args.n c.loop-i.d)

@@ -3,19 +3,16 @@
 use Rattle.std.specs.Prelude.{ℕ, suc, ◌+◌, ◌-◌, ◌<◌, ◌≤◌, ℤ, pos, ◌+ℤ◌, ◌*ℤ◌, get_or, List, ◌≡◌}
 use Rattle.std.proofs.Common.{to_z-of_z, arith}
 use mir.Syntax.{w64}
-use mir.Val.{SFits, to_z, of_z}
+use mir.Val.{SFits}
+use Rattle.integers.specs.Signed.{read}
 use Rattle.integers.specs.Sums.{sum}
 use Rattle.substitution.proofs.BackwardLaws.{working_fits, correction_fits, term_fits, sum_fits}
 use Rattle.substitution.specs.Bounds.{Summable}
 use Rattle.substitution.specs.Passes.{product_above}
 use Rattle.substitution.proofs.sum_above.Goals as goal
 
--- what a number is that the bits of z are read back as
-abbrev read : ℤ → ℤ
-read z = to_z w64 (of_z w64 z)
-
 -- in a turn: place j of the row and of the corrections
-module _ (row d : List ℤ) (i n j : ℕ) (h : Summable row d i n) (p : suc i ≤ j) (l : j < n) where
+module _ {row d : List ℤ} {i n : ℕ} (h : Summable row d i n) (j : ℕ) (p : suc i ≤ j) (l : j < n) where
   abbrev term : ℤ
   term = get_or row j (pos 0) *ℤ get_or d j (pos 0)
 
@@ -34,21 +31,11 @@ module _ (row d : List ℤ) (i n j : ℕ) (h : Summable row d i n) (p : suc i �
 
 pub overflow_add-s : goal.overflow_add-s
 overflow_add-s c =
-    let a = c.args in
     let j = c.loop-j.j in
-    rw (c.loop-j.invariant.2, read_term a.row.now a.d.now a.i a.n j c.requires (omega arith) (omega arith))
-    (next a.row.now a.d.now a.i a.n j c.requires (omega arith) (omega arith))
+    rw (c.loop-j.invariant, read_term c.requires j (omega arith) (omega arith)) (next c.requires j (omega arith) (omega arith))
 
 pub loop-j-preserved : goal.loop-j-preserved
 loop-j-preserved c =
-    let a = c.args in
-    let j = c.loop-j.j in (
-      omega arith,
-      omega arith,
-      rw (
-        c.loop-j.invariant.2,
-        read_term a.row.now a.d.now a.i a.n j c.requires (omega arith) (omega arith),
-        more a.row.now a.d.now a.i a.n j c.requires (omega arith) (omega arith),
-      )
-          (to_z-of_z (next a.row.now a.d.now a.i a.n j c.requires (omega arith) (omega arith))),
-    )
+    let j = c.loop-j.j in
+    rw (c.loop-j.invariant, read_term c.requires j (omega arith) (omega arith), more c.requires j (omega arith) (omega arith))
+    (to_z-of_z (next c.requires j (omega arith) (omega arith)))
