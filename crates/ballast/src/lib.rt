@@ -14,6 +14,7 @@ use outcome::Refusal;
 use solver::{Kept, Unsolved, solve};
 
 // What a file's case comes to, but for its trial, residuals and reaches: n, the exponent, and what is said of the kept answer, or the refusal.
+// n and the exponent stand beside refusal 8 and 9 too; beside one of the reading they are 0.
 #[derive(Clone, Copy, Debug, PartialEq, Eq)]
 pub struct Answered {
     pub n: usize,

@@ -62,7 +62,7 @@ pub extern "C" fn ballast_verdict_text(input: &[u8], out: &mut [u8]) -> i64
     result(verdict_text::verdict_text(input, out))
 }
 
-// Writes a case into a buffer.
+// Writes a case into a buffer. C hands the figures over one by one.
 #[unsafe(no_mangle)]
 pub extern "C" fn ballast_write_case(
     n: usize,

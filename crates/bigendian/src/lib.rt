@@ -18,7 +18,7 @@ pub trait BigEndian: Copy {
 
     const SIZE: usize;
 
-    // The figure at a place of s. A part of s would be no plainer: each caller has a place, and the field before it at the same s.
+    // The figure at a place of s. s and the place stand apart: callers read several figures of one s, each at its own place.
     fn read(s: &[u8], at: usize) -> Self
         requires { at + SIZE ≤ length s.now }
         ensures { result ≡ figure (be (take SIZE (drop at s.now))) };
@@ -28,6 +28,8 @@ pub trait BigEndian: Copy {
         requires { SIZE ≤ length out.old }
         ensures { out.new ≡ onto (be_bytes SIZE (number self)) out.old };
 }
+
+// Each impl is written out: the gate takes none that a macro of our own writes.
 
 impl BigEndian for u16 {
     ghost SIZE = { size w16 };

@@ -39,8 +39,8 @@ pub struct CaseHead {
 }
 
 // The other figures of a case, in arrays with room for those of any case: coefficients and tolerances row after row, row i from i * n on; the right
-// sides, their tolerances and the trial.
-#[derive(Clone, Copy)]
+// sides, their tolerances and the trial. Lists apart and no list of structs: they are those of document 01 and of every definition here.
+#[derive(Clone, Copy, Debug, PartialEq, Eq)]
 pub struct CaseFigures {
     pub coefficients: [i16; MOST_COEFFICIENTS],
     pub tolerances: [u16; MOST_COEFFICIENTS],
@@ -59,7 +59,7 @@ pub const NO_FIGURES: CaseFigures = CaseFigures {
 };
 
 // A case in arrays with zeros behind its figures: only the round trip returns it.
-#[derive(Clone, Copy)]
+#[derive(Clone, Copy, Debug, PartialEq, Eq)]
 pub struct StoredCase {
     pub head: CaseHead,
     pub figures: CaseFigures,
@@ -103,8 +103,8 @@ pub fn tanks_fine(n: usize) -> bool
     (1 <= n) & (n <= MOST_TANKS)
 }
 
-// Whether a list has a coefficient for each of n tanks in each of n rows. What is asked of n stays an inequality here: `tanks_fine` and `is_fine` answer
-// for every n, so no type can hold it.
+// Whether a list has a coefficient for each of n tanks in each of n rows. What is asked of n stays an inequality here: a type of its own would have to
+// be taken apart wherever n counts something.
 pub fn coefficients_counted(n: usize, coefficients: &[i16]) -> bool
     requires { n ≤ most_tanks }
     ensures { result ≡ square_counted n coefficients.now }

@@ -28,7 +28,8 @@ fn fill_digits(x: u64, part: &mut [u8])
     }
 }
 
-// Writes text into the buffer `out` that it was lent, from the place `at` on, which is then behind what it wrote.
+// Writes text into the buffer `out` that it was lent, from the place `at` on, which is then behind what it wrote. It can be no copy, since it lends on.
+// The numbers are written digit by digit: the bytes of a `write!` are known of a `String` alone, and that needs memory.
 #[derive(Drop)]
 pub struct TextWriter<'a> {
     pub out: &'a mut [u8],
@@ -109,13 +110,14 @@ impl<'a> TextWriter<'a> {
 }
 
 // How many digits were read, and their number.
-#[derive(Clone, Copy, Debug, PartialEq, Eq, Drop)]
+#[derive(Clone, Copy, Debug, PartialEq, Eq)]
 pub struct Digits {
     pub count: usize,
     pub value: u64,
 }
 
-// Reads the digits at the front of the text, at most `most` of them; 64 bits hold any number of 19.
+// Reads the digits at the front of the text, at most `most` of them; 64 bits hold any number of 19. The library's `parse` takes a whole text,
+// and here other bytes follow.
 pub fn read_digits(text: &[u8], most: usize) -> Digits
     requires { most ≤ most_digits }
     ensures { DigitsRead most text.now result }

@@ -104,7 +104,7 @@ pub struct Eliminated {
 
 // All steps of the elimination of n rows of coefficients, which stand row after row, or those before the first whose candidates are all
 // zero. `eliminated` is written whole, whatever it held, after an early end too. Asks that there are at most 8 rows.
-// The scope paper names the form of its loops, of the steps and of the rows, both left by a label where no pivot is found.
+// Document 01 names the form of its loops, of the steps and of the rows, both left by a label where no pivot is found.
 pub fn eliminate(
     n: usize,
     coefficients: &[i16; MOST_COEFFICIENTS],

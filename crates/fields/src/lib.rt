@@ -21,8 +21,8 @@ pub const END_LENGTH: usize = 0;
 
 pub const END_SIZE: usize = HEADER_SIZE + END_LENGTH;
 
-// s and the place stand apart, since a place past the end of s has an answer too.
-// Whether the field that starts at a place of s has this tag, this length and its whole value: the first of refusals 2 to 5, or none.
+// Whether the field that starts at a place of s has this tag, this length and its whole value: the first of refusals 2 to 5, or none. s and the place
+// stand apart, since a place past the end of s has an answer too.
 pub fn check_field(s: &[u8], at: usize, tag: u8, len: usize) -> Result<(), Refusal>
     ensures { status_number result ≡ status_number (field_status tag len (drop at s.now)) }
 {

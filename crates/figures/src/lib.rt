@@ -23,6 +23,8 @@ pub trait Figure: BigEndian {
     ghost narrow: { Self.SIZE ≤ 4 };
 }
 
+// Each impl is written out: the gate takes none that a macro of our own writes.
+
 impl Figure for i16 {
     ghost within = { within_limit };
 
@@ -79,7 +81,8 @@ impl Figure for u32 {
     }
 }
 
-// Reads as many figures as out has places, from a place of s on, within the limit or not; the answer says whether all are within it.
+// Reads as many figures as out has places, from a place of s on, within the limit or not; the answer says whether all are within it: a bool,
+// since the places are filled either way. Each figure is tested as it is read: a second pass over the list made reading a case slower by half.
 pub fn read<T: Figure>(s: &[u8], at: usize, limit: u64, out: &mut [T]) -> bool
     requires { at + T.SIZE * length out.old ≤ length s.now }
     ensures { Read (kind_of T.SIZE T.figure T.number) (T.within limit) (drop at s.now) out.old result out.new }

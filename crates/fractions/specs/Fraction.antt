@@ -1,6 +1,6 @@
 -- Definitions only.
 -- Fractions of naturals and their order, by cross products of any size.
-use Prim.Native.Nat.{ℕ, zero, suc, ◌*◌, ◌≤◌, ◌<◌, compare, Ordering as Answer}
+use Prim.Native.Nat.{ℕ, zero, suc, ◌*◌, ◌≤◌, ◌<◌, compare, Ordering as Compared}
 use Rattle.std.specs.declared.cmp.Ordering.{Ordering}
 use Rattle.std.specs.declared.cmp.Ordering.TheVariants.{Less, Equal, Greater}
 
@@ -30,10 +30,10 @@ abbrev pub ◌≺◌ : Fraction → Fraction → Type 0
 f ≺ g = f.num * base g < g.num * base f
 
 -- the order of two naturals
-abbrev pub order_named : Answer → Ordering
-order_named Answer.lt = Less
-order_named Answer.eq = Equal
-order_named Answer.gt = Greater
+abbrev pub order_named : Compared → Ordering
+order_named Compared.lt = Less
+order_named Compared.eq = Equal
+order_named Compared.gt = Greater
 
 unfoldable pub order_of_numbers : ℕ → ℕ → Ordering
 order_of_numbers x y = order_named (compare x y)

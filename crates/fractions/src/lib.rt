@@ -7,6 +7,8 @@ ghost use Rattle.fractions.specs.Greatest.{is_greater_order};
 
 use std::cmp::Ordering;
 
+// Numerators and denominators are four numbers and no struct of two: `compare` exchanges them at each turn.
+
 // The order where a denominator is zero: 0 / 0 is zero, and anything else over 0 is above every fraction.
 fn compare_zero(a: u64, b: u64, c: u64, d: u64) -> Ordering
     requires { (b ≡ 0) ⊎ (d ≡ 0) }

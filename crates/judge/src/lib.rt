@@ -96,7 +96,8 @@ impl RowMeasurement {
     }
 }
 
-// What a loading condition brings: the right-hand sides b of its rows, and their tolerances f.
+// What a loading condition brings: the right-hand sides b of its rows, and their tolerances f. Lists apart, here and below, and no list of pairs: they are
+// those of document 01 and of every definition.
 #[derive(Clone, Copy, Debug, PartialEq, Eq)]
 pub struct RightHandSide {
     pub values: [i32; MOST_TANKS],
@@ -241,7 +242,7 @@ impl MeasuredTrial {
         best
     }
 
-    // The judgement of n rows, from what the trial leaves of them.
+    // The judgement of n rows, from what the trial leaves of them. n is a plain number here: a trial has no equations.
     pub fn conclude(&self, n: usize, unmet: usize) -> Conclusion
         requires { n ≤ most_tanks }
         ensures { judgement_from result self.now.residuals self.now.reaches ≡ concluded n (measurement_from unmet self.now.residuals self.now.reaches) }

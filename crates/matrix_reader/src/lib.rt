@@ -115,7 +115,7 @@ fn read_entry(text: &[u8]) -> Option<Entry>
 }
 
 // Whether the text is so many entries, one a line, and nothing behind them. They go over the front of columns, in the order of the text; where it is not,
-// some of them may.
+// some of them may: a bool, since the columns are filled either way.
 fn read_entries(text: &[u8], count: usize, columns: &mut [i16]) -> bool
     requires { count ≤ length columns.old }
     ensures { EntriesRead count text.now result columns.new }

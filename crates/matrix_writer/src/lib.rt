@@ -35,7 +35,7 @@ fn write_entry(entry: i16, to: &mut TextWriter<'_>)
     to.bytes(b"\n");
 }
 
-// The lines of all entries, column after column.
+// The lines of all entries, column after column. n and the list stay two, as a caller has them: `check_matrix` answers for those that do not fit.
 fn write_entries(n: usize, coefficients: &[i16], to: &mut TextWriter<'_>)
     requires { (matrix_status n coefficients.now ≡ Accepted) × (to.old.at + length coefficients.now * longest_entry_line ≤ length to.old.out.now) }
     ensures { Writes (joined entry_line (transpose n coefficients.now)) to.old to.new }

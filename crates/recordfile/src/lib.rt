@@ -48,8 +48,9 @@ const FACTOR_LENGTH: u16 = 2;
 // Where the answer's field begins, behind the verdict's.
 const ANSWER_AT: usize = HEADER_SIZE + VERDICT_LENGTH as usize;
 
-// The lengths and places of the fields of a condition with n figures and rows. n is a plain number here: only `Equations` has figures that it counts.
-#[derive(Clone, Copy)]
+// The lengths and places of the fields of a condition with n figures and rows. n is a plain number here: the
+// figures that it counts stand in arrays with room for any.
+#[derive(Clone, Copy, Debug, PartialEq, Eq)]
 struct ConditionPlaces {
     answer_len: usize,
     rows: usize,

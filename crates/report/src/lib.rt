@@ -26,7 +26,7 @@ fn write_labelled(word: &[u8], x: u64, to: &mut TextWriter<'_>)
 }
 
 // One of two words, and a whole number behind it.
-fn write_either<'a>(which: bool, yes: &'a [u8], no: &'a [u8], x: u64, to: &mut TextWriter<'_>)
+fn write_either(which: bool, yes: &[u8], no: &[u8], x: u64, to: &mut TextWriter<'_>)
     requires { HasRoom (labelled (cond which yes.now no.now) x) to.old }
     ensures { Writes (labelled (cond which yes.now no.now) x) to.old to.new }
 {
@@ -79,7 +79,7 @@ fn write_factor_line(none: bool, row: u64, to: &mut TextWriter<'_>)
     to.bytes(b"\n");
 }
 
-// Every row's residual and reach. n is a plain number in a text: the figures that it counts are in arrays with room for any.
+// Every row's residual and reach. n is a plain number here: the figures that it counts stand in arrays with room for any.
 fn write_rows(n: usize, trial: &MeasuredTrial, to: &mut TextWriter<'_>)
     requires { (n ≤ most_tanks) × (to.old.at + n * room_of_row ≤ length to.old.out.now) }
     ensures { WroteWithin (n * room_of_row) (row_lines n (λ i. get_or trial.now.residuals i (pos 0)) (λ i. get_or trial.now.reaches i 0)) to.old to.new }

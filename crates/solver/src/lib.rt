@@ -18,12 +18,12 @@ ghost use Rattle.solver.specs.Solution.{solution_from, judged_trial, kept_of, so
 use elimination::{Eliminated, eliminate};
 use fractions::exceeds;
 use integers::{magnitude, scaled};
-use judge::{Conclusion, Equations, MeasuredTrial, RightHandSide};
+use judge::{Conclusion, Equations, MeasuredTrial, RightHandSide, ZERO_TRIAL};
 use limits::{MOST_COEFFICIENTS, MOST_TANKS, TRIAL_LIMIT};
 use outcome::Refusal;
 use substitution::{backward_pass, forward_pass};
 
-// The figures of the places in `order`, into z; 0 past the n-th. It takes n alone of the equations.
+// The figures of the places in `order`, into z; 0 past the n-th. n comes alone, since nothing else of the equations is needed.
 fn order_figures(
     n: usize,
     figures: &[i64; MOST_TANKS],
@@ -40,7 +40,7 @@ fn order_figures(
     }
 }
 
-// Y gains d, from the first tank on, up to a figure outside its limit, and whether there was none.
+// Y gains d, from the first tank on, up to a figure outside its limit, and whether there was none: a bool, since what Y holds is said either way.
 fn correct_figures(n: usize, trial: &mut [i32; MOST_TANKS], corrections: &[i64; MOST_TANKS]) -> bool
     requires { FiguresCorrectable n trial.old corrections.now }
     ensures { update result trial.new ≡ corrected_from corrections.now 0 n trial.old }
@@ -88,7 +88,7 @@ fn nothing_said() -> Conclusion
 
 // What is kept of the best trial so far: whether it is the last one, what is said of it, and the factor of the row that decides, as a fraction, by which
 // trials are ranked. Its figures, residuals and reaches are those of the last trial where it is that one, and otherwise stand by themselves: a flag
-// and no Option, which would hold a copy of the trial after every round.
+// and no Option, which would hold a copy of the trial after every round, and nothing where no trial is ranked yet, as `unranked` has it.
 #[derive(Clone, Copy, Debug, PartialEq, Eq)]
 pub struct BestTrial {
     pub last: bool,
@@ -164,11 +164,7 @@ pub fn start(equations: &Equations, trial: &mut MeasuredTrial) -> RefinementStat
     ensures progress { (A : List ℤ) (E : List ℕ) → progress_from result trial.new ≡ start_of (system equations.now.n A E equations.now.right_hand_side.values equations.now.right_hand_side.tolerances) equations.now.scale }
     ensures best { (result.best.last ≡ false) × ((t : MeasuredTrial) → ranked_from result.best t ≡ unranked t) }
 {
-    *trial = MeasuredTrial {
-        figures: [0i32; MOST_TANKS],
-        residuals: [0i64; MOST_TANKS],
-        reaches: [0u64; MOST_TANKS],
-    };
+    *trial = ZERO_TRIAL;
     for i in 0..equations.n {
         trial.residuals[i] = scaled(equations.scale, equations.right_hand_side.values[i]);
     }

@@ -19,7 +19,7 @@ const DEPTH_SIZE: usize = u16::SIZE;
 // The shortest buffer for depths: two bytes for each of eight tanks.
 pub const SOUNDINGS_ROOM: usize = DEPTH_SIZE * MOST_TANKS;
 
-// Whether each answer is inside the table.
+// Whether each answer is inside the table. Table, scale and answers stay three: the table is a ship's, the others are a case's.
 fn all_inside(table: &[u32], scale: u16, answer: &[i32]) -> bool
     requires { 0 < length table.now }
     ensures { result ≡ all_are_inside table.now scale answer.now }

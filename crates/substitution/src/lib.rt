@@ -46,9 +46,8 @@ fn correction_of(row: &[i64; MOST_TANKS], z: i64, d: &[i64; MOST_TANKS], i: usiz
     rounded_quotient(WORKING_SCALE * z - above, row[i])
 }
 
-// The passes are no methods of `Eliminated`: they read its working matrix alone, and that type's crate is below this one.
-
-// Every entry of the right-hand side reduced by the multipliers, from the top, in place. Entries past the rows stay as they are.
+// Every entry of the right-hand side reduced by the multipliers, from the top, in place. Entries past the rows stay as they are. The two passes are no
+// methods of `Eliminated`: they read its working matrix alone, and that type's crate is below this one.
 pub fn forward_pass(working: &[[i64; MOST_TANKS]; MOST_TANKS], z: &mut [i64; MOST_TANKS], n: usize)
     requires { Forward working.now z.old n }
     ensures { z.new ≡ forward working.now z.old n }
@@ -58,7 +57,7 @@ pub fn forward_pass(working: &[[i64; MOST_TANKS]; MOST_TANKS], z: &mut [i64; MOS
     }
 }
 
-// The corrections, from the last row to the first, and whether all of them were formed, each within its limit. The first outside it ends the pass; those not formed are 0, whatever d held.
+// The corrections, from the last row to the first, and whether all of them were formed, each within its limit: a bool, since what d holds is said either way. The first outside it ends the pass; those not formed are 0, whatever d held.
 pub fn backward_pass(
     working: &[[i64; MOST_TANKS]; MOST_TANKS],
     z: &[i64; MOST_TANKS],

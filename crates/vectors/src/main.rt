@@ -40,9 +40,7 @@ const LONGEST_BUFFER: usize = 512;
 
 const TEXT_ROOM: usize = report::TEXT_ROOM;
 
-const MOST_COUNT: u8 = 80;
-
-const MOST_FIGURES: usize = MOST_COUNT as usize;
+const MOST_FIGURES: usize = 80;
 
 // The bytes of the longest list, of figures of 4 bytes.
 const LIST_ROOM: usize = 4 * MOST_FIGURES;
