@@ -42,7 +42,7 @@ fn read_row(
 }
 
 // The fields of n rows behind the head: the first refusal, or none and their figures over the fronts of four of the lists.
-// After a refusal what these hold is left open: `read_case` then clears them.
+// After a refusal what these hold is left open: `read_case` then clears them. n is all of the head that rows need.
 pub fn read_rows(s: &[u8], n: usize, figures: &mut CaseFigures) -> Result<(), Refusal>
     requires { n ≤ most_tanks }
     ensures found { RowsFound n (after_head s.now) (rows_in figures.old) result (rows_in figures.new) }

@@ -96,7 +96,7 @@ impl<'a> TextWriter<'a> {
         }
     }
 
-    // x / 10^e: its sign, the whole part, and for e above 0 a point and e digits.
+    // x / 10^e: its sign, the whole part, and for e above 0 a point and e digits. e stays a number here: a file brings it as one.
     pub fn fixed_point(&mut self, x: i64, e: usize)
         requires { (e ≤ most_exponent) × HasRoom (fixed_point e x) self.old }
         ensures { Writes (fixed_point e x) self.old self.new }

@@ -255,7 +255,8 @@ impl RefinementState {
     }
 }
 
-// From the start, rounds until one is met, or refused, or `rounds` of them are done; where none is met, with the best of their trials.
+// From the start, rounds until one is met, or refused, or `rounds` of them are done; where none is met, with the best of their trials. Equations,
+// elimination and trial stay three: several right-hand sides are to have one elimination, and a trial is its caller's.
 fn refine(
     equations: &Equations,
     eliminated: &Eliminated,

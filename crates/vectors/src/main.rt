@@ -177,8 +177,8 @@ fn compare_call<F: FnOnce(&[u8], &mut [u8]) -> Result<usize, Refusal>>(
     Ok(compare(outcome, &buffer, &expected))
 }
 
-// Reads the matrix in an input, and compares the bytes of the list, with its places that were not lent. A matrix that was read leaves two bytes for each
-// coefficient.
+// Reads the matrix in an input, and compares the bytes of the list, with its places that were not lent: a list of figures, so no case of
+// `compare_call`. A matrix that was read leaves two bytes for each coefficient.
 fn compare_matrix_read(file: &mut File, input: &[u8]) -> Result<Item, Malformed> {
     let expected = read_expected(file, |n| n.saturating_mul(n).saturating_mul(2))?;
     ensure(expected.length <= MOST_FIGURES)?;
