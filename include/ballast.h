@@ -37,7 +37,7 @@ extern "C" {
 #define BALLAST_MATRIX_ROOM 496   /* the longest matrix text that is written, and the shortest buffer for one; one to be read may be longer */
 #define BALLAST_MATRIX_PLACES 64  /* the coefficients of eight tanks, and the shortest list for those of a matrix text */
 
-/* Measured and not proved: examples/run calls each function on a painted stack and finds 4,352 bytes changed at most. Where memcpy and
+/* Measured and not proved: examples/run calls each function on a painted stack and finds 4,448 bytes changed at most. Where memcpy and
  * memset are bound at their first call, what the loader needs for that comes on top. */
 #define BALLAST_STACK_NEED 8192
 

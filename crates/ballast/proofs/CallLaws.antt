@@ -10,7 +10,7 @@ use Rattle.judge.specs.declared.MeasuredTrial.{MeasuredTrial}
 use Rattle.solver.proofs.Answers.{trial_places}
 use Rattle.solver.proofs.Outcomes.{solution_promised, same_solution}
 use Rattle.solver.proofs.SameFigures.{solution_same_figures}
-use Rattle.solver.specs.Solution.{Solution, solution_from, solution, SolutionIs}
+use Rattle.solver.specs.Solution.{Solution, solution_from, SolutionIs}
 use Rattle.solver.specs.declared.Kept.{Kept}
 use Rattle.solver.specs.declared.Unsolved.{Unsolved}
 use Rattle.outcome.proofs.Laws.{not_both}
@@ -109,7 +109,21 @@ answer_read d w D s a e =
     let h : a ≡ in_places (case_solution c) = same_solution _ _ e ∙ rw (w.head, w.lists, q) (condition_held c (scale_of c.exponent) c.rounds) in
     answer_promised _ _ (rw (h, w.head, w.decoded))
 
+-- beside a refusal the trial's places are zero
+pub refused_trial : {d : Decoded} {before after : CaseLists} {r : Result CaseHead Refusal} (q : Refusal) → CaseReadInto d before r after → d ≡ refused q → after.Y ≡ replicate most_tanks (pos 0)
+refused_trial {before = before} q w e = ap (λ (l : CaseLists). l.Y) (w.lists ∙ ap (λ (x : Decoded). lists_read x before) e)
+
+-- a trial with these figures, and the residuals and reaches of another
+abbrev with_figures : List ℤ → MeasuredTrial → MeasuredTrial
+with_figures Y t = record { figures = Y; residuals = t.residuals; reaches = t.reaches }
+
 -- a refusal of the reading is the answer of the file
-pub refusal_read : (d : Decoded) (q : Refusal) → d ≡ refused q → (r : Answer) → r ≡ no_answer q → AnswerIs r (answer_of d)
+pub refusal_read : (d : Decoded) (q : Refusal) → d ≡ refused q → (r : Answered) (t : MeasuredTrial) → t.figures ≡ replicate most_tanks (pos 0)
+    → AnswerIs (answer_from r (with_figures (replicate most_tanks (pos 0)) t)) (no_answer q) → AnswerIs (answer_from r t) (answer_of d)
 unfolding answer_of
-refusal_read d q e r h = answer_promised _ _ (rw (h, e))
+refusal_read d q e r t h s = let same : with_figures (replicate most_tanks (pos 0)) t ≡ t = ap (λ (Y : List ℤ). with_figures Y t) (sym h) in rw (e, ← same) s
+
+-- so is one that is the answer beside it
+pub no_answer_read : (d : Decoded) (q : Refusal) → d ≡ refused q → (r : Answer) → r ≡ no_answer q → AnswerIs r (answer_of d)
+unfolding answer_of
+no_answer_read d q e r h = answer_promised _ _ (rw (h, e))

@@ -5,7 +5,7 @@ use Rattle.std.proofs.Common.{refl}
 use Rattle.casefile.specs.Decode.{decode}
 use Rattle.case_reader.specs.ReadLaws.{read_accepted, read_refused}
 use Rattle.ballast.proofs.Bounds.{workable}
-use Rattle.ballast.proofs.CallLaws.{answer_read, refusal_read}
+use Rattle.ballast.proofs.CallLaws.{answer_read, no_answer_read}
 use Rattle.ballast.proofs.answer_case.Goals as goal
 
 pub power_of_ten-requires : goal.power_of_ten-requires
@@ -29,4 +29,4 @@ returns-in-Ok c =
     answer_read _ held _ c.power_of_ten.ensures _ c.answer_condition.ensures
 
 pub returns-in-Err : goal.returns-in-Err
-returns-in-Err c = refusal_read _ _ (read_refused (decode c.args.input.now) c.read_case.ensures _ c.in-Err.is) _ refl
+returns-in-Err c = no_answer_read _ _ (read_refused (decode c.args.input.now) c.read_case.ensures _ c.in-Err.is) _ refl

@@ -1,6 +1,6 @@
 -- `ballast::judge_case` meets its contract: each way through it is one of the definition's cases, and the definition keeps the promise.
 -- Assumes nothing.
-use Rattle.std.specs.Prelude.{◌≡◌, refl, Err, Ok}
+use Rattle.std.specs.Prelude.{◌≡◌, refl, Ok}
 use Rattle.std.proofs.Common.{sym, ap}
 use Rattle.std.proofs.lemmas.Result.{err_from_is_err_and}
 use Rattle.solver.specs.Solution.{solution_from}

@@ -4,12 +4,11 @@ use Prim.Native.Nat.{◌+◌}
 use lib.ListN.{length, drop}
 use mathlib.Core.Bool.{true}
 use mathlib.Core.Path.{◌≡◌, sym, ◌∙◌}
-use native.Mathlib.Omega.{arith}
 use Rattle.buffer.specs.Buffer.{begins_by}
 use Rattle.buffer.specs.Laws.{part_is}
 use Rattle.matrixfile.specs.Text.{first_line}
 use Rattle.matrix_reader.specs.Parts.{CommentsRead, SizeRead}
-use Rattle.matrix_reader.specs.PartLaws.{starts_begins, header_refused, first_line_room, size_place, header_size_refused, header_accepted}
+use Rattle.matrix_reader.specs.PartLaws.{starts_begins, header_refused, header_size_refused, header_accepted}
 use Rattle.matrix_reader.proofs.read_header.Goals as goal
 use Rattle.matrix_reader.proofs.read_header.Goals.{Else-not-starts_with, After-comment_bytes, After-read_size}
 
@@ -26,22 +25,7 @@ size c = rw (part_is c.args.text.now (length first_line + c.comment_bytes.result
 pub returns-then-not-starts_with : goal.returns-then-not-starts_with
 returns-then-not-starts_with c = header_refused _ (sym (starts_begins first_line c.args.text.now) ∙ sym c.starts_with.ensures.value ∙ c.if-not-starts_with.true)
 
-pub slice_bounds-comment_bytes-count : goal.slice_bounds-comment_bytes-count
-slice_bounds-comment_bytes-count c = omega (arith, first_line_room c.args.text.now (first (goal.at.slice_bounds-comment_bytes-count c).Else-not-starts_with))
-
-pub slice_bounds-comment_bytes-start : goal.slice_bounds-comment_bytes-start
-slice_bounds-comment_bytes-start c = omega (arith, first_line_room c.args.text.now (first (goal.at.slice_bounds-comment_bytes-start c).Else-not-starts_with))
-
 -- and the comment lines behind it
-pub slice_bounds-read_size-count : goal.slice_bounds-read_size-count
-slice_bounds-read_size-count c =
-    let p = goal.at.slice_bounds-read_size-count c in
-    omega (arith, (size_place c.args.text.now (first p.Else-not-starts_with) (comments p.After-comment_bytes)).inside)
-
-pub slice_bounds-read_size-start : goal.slice_bounds-read_size-start
-slice_bounds-read_size-start c =
-    let p = goal.at.slice_bounds-read_size-start c in
-    omega (arith, (size_place c.args.text.now (first p.Else-not-starts_with) (comments p.After-comment_bytes)).inside)
 
 -- and the size line
 pub returns-in_err-size : goal.returns-in_err-size

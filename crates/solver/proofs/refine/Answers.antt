@@ -4,8 +4,7 @@ use Prim.Native.Nat.{◌<◌, ◌-◌, ◌+◌}
 use mathlib.Core.Path.{◌≡◌, sym, ◌∙◌}
 use native.Mathlib.Omega.{arith}
 use Rattle.judge.specs.Equations.{system_of}
-use Rattle.solver.specs.Refinement.{progress_from}
-use Rattle.solver.proofs.RoundsMade.{none_made, all_made, one_more_made, ended_made, ended_met}
+use Rattle.solver.proofs.RoundsMade.{none_made, all_made, one_more_made, ended_made}
 use Rattle.solver.proofs.refine.Goals as goal
 
 pub loop-init : goal.loop-init
@@ -28,19 +27,7 @@ returns-then-ended-clause-progress c =
     let some : 0 < c.args.rounds - l.counter = omega arith in
     ended_made _ _ _ _ _ _ _ _ _ l.invariant.1 some c.round-state.ensures.progress (sym c.ended.ensures ∙ c.if-ended.true)
 
-pub returns-then-ended-clause-best : goal.returns-then-ended-clause-best
-returns-then-ended-clause-best c =
-    let r = c.round-state in
-    λ _ within unmet.
-    let met = ended_met (progress_from r.result r.new.trial) (sym c.ended.ensures ∙ c.if-ended.true) within in
-    cc
-
 pub returns-clause-progress : goal.returns-clause-progress
 returns-clause-progress c =
     let none : c.args.rounds - c.loop.counter ≡ 0 = omega arith in
     (all_made _ _ _ _ _ _ _ (rw none at c.loop.invariant.1)).0
-
-pub returns-clause-best : goal.returns-clause-best
-returns-clause-best c =
-    let none : c.args.rounds - c.loop.counter ≡ 0 = omega arith in
-    λ some _ _. (all_made _ _ _ _ _ _ _ (rw none at c.loop.invariant.1)).1 some
