@@ -85,7 +85,7 @@ fn is_negative(text: &[u8]) -> bool
     text.first() == Some(&b'-')
 }
 
-// The coefficient of this magnitude, below zero where `negative` says so.
+// The coefficient of this magnitude, below zero where `negative` says so: the library has no conversion of a sign and a size.
 fn with_sign(negative: bool, magnitude: u64) -> i16
     requires { magnitude ≤ coefficient_limit }
     ensures { result ≡ cond negative (neg_ℤ (pos magnitude)) (pos magnitude) }
