@@ -68,7 +68,8 @@ pub fn soundings(input: &[u8], out: &mut [u8]) -> Result<usize, Refusal>
     }
     let mut trial = ZERO_TRIAL;
     let answer = ballast::answer_case(input, &mut trial);
-    answer.kept?;
+    // The refusal is named here, where a `?` alone would do, so that a must-fail edit can put another in its place.
+    answer.kept.map_err(|unsolved| unsolved.refusal)?;
     let table = sounding_table::reference_tank();
     let scale = integers::power_of_ten(answer.exponent);
     write_soundings(&table, scale, &trial.figures[..answer.n], out)

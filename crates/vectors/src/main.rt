@@ -124,12 +124,13 @@ fn read_front(file: &mut File, count: usize, buf: &mut [u8]) -> Result<(), Malfo
 fn read_expected<F: Fn(usize) -> usize>(file: &mut File, bytes_of: F) -> Result<Expected, Malformed>
     requires { F.IsAlwaysCallable bytes_of }
 {
-    let length = read_number(file)? as usize;
-    let mut kind = [0u8; 1];
-    file.read_exact(&mut kind)?;
-    let number = read_number(file)?;
+    // one read: a file has no buffer
+    let mut head = [0u8; 5];
+    file.read_exact(&mut head)?;
+    let length = u16::read(&head, 0) as usize;
+    let number = u16::read(&head, 3);
     let mut buffer = [UNTOUCHED; LONGEST_BUFFER];
-    let outcome = match kind[0] {
+    let outcome = match head[2] {
         0 => {
             read_front(file, bytes_of(number as usize), &mut buffer)?;
             Ok(number)
